@@ -1,0 +1,2 @@
+mod Nine
+mod Rows

@@ -1,0 +1,16 @@
+-- An octet that is stored at the end is one more octet of the row.
+use mathlib.Core.Path.{_≡_, sym}
+use mathlib.Core.List.{List}
+use Prim.Native.Nat.{ℕ, _<_}
+use native.Mathlib.Omega.{arith}
+use lib.ListN.{length, length-take}
+use borrow.Author.Tests.{lt-ltb}
+use Rattle.std.proofs.shelf.Lists.{take-more-set}
+use Rattle.frame.proofs.octets.Octets.push.Needs as need
+
+pub returns : need.returns
+returns g c =
+    let items : List ℕ = c .args .self .now .items in
+    let at : ℕ = c .args .self .now .len in
+    let h : at < length items = omega arith in
+    record { room = sym (lt-ltb _ _ (omega (arith, length-take at items))); after = take-more-set items at (c .args .octet) h }

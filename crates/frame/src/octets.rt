@@ -1,0 +1,15 @@
+//! A short row of octets in a fixed memory, with a list's interface.
+ghost use lib.ListN.{length};
+ghost use mathlib.Core.Path.{_≡_};
+ghost use Prim.Native.Nat.{_≤_};
+
+pub mod row;
+
+/// At most N octets.
+#[derive(Clone, Copy)]
+pub struct Octets<const N: usize> {
+    items: [u8; N],
+    len: usize,
+    ghost full: { length items ≡ N },
+    ghost room: { len ≤ N },
+}

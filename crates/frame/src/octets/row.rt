@@ -1,0 +1,60 @@
+ghost use mathlib.Core.Bool.{cond};
+ghost use mathlib.Core.List.{[], _∷_, _++_};
+ghost use mathlib.Core.Path.{_≡_};
+ghost use lib.Dec.{ltb};
+ghost use lib.ListN.{length};
+ghost use Prim.Native.Nat.{_+_, _<_, _≤_};
+ghost use Rattle.frame.specs.Octets.{octets};
+ghost use Rattle.std.specs.Options.{Cases as BySome};
+use super::Octets;
+
+impl<const N: usize> Octets<N> {
+    /// No octets.
+    pub fn new() -> Self
+        ensures { λ r. ⌜ octets r ≡ [] ⌝ }
+    {
+        Octets { items: [0; N], len: 0 }
+    }
+
+    /// The octets of a slice, if there is room for them.
+    pub fn from_slice(from: &[u8]) -> Option<Self>
+        ensures { λ r. ⌜ BySome r (N < length (now (from .entry))) (λ o. octets o ≡ now (from .entry)) ⌝ }
+    {
+        let mut row = Octets::new();
+        for octet in from {
+            if !row.push(*octet) {
+                return None;
+            }
+        }
+        Some(row)
+    }
+
+    /// One octet more at the end, and true; a full row stays as it is, and the answer is false.
+    pub fn push(&mut self, octet: u8) -> bool
+        ensures room { λ r. ⌜ r ≡ ltb (length (octets (now (self .entry)))) N ⌝ }
+        ensures after { λ r. ⌜ octets (now (self .exit)) ≡ cond r (octets (now (self .entry)) ++ octet ∷ []) (octets (now (self .entry))) ⌝ }
+    {
+        let at = self.len;
+        if at >= N {
+            return false;
+        }
+        self.items[at] = octet;
+        self.len = at + 1;
+        true
+    }
+
+    pub fn as_slice(&self) -> &[u8]
+        ensures value { λ r. ⌜ now r ≡ octets (now (self .entry)) ⌝ }
+        ensures bound { λ r. ⌜ length (now r) ≤ N ⌝ }
+    {
+        let all = &self.items[..];
+        &all[0..self.len]
+    }
+
+    pub fn len(&self) -> usize
+        ensures value { λ r. ⌜ r ≡ length (octets (now (self .entry))) ⌝ }
+        ensures bound { λ r. ⌜ r ≤ N ⌝ }
+    {
+        self.len
+    }
+}
