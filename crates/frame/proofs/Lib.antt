@@ -1,2 +1,4 @@
-mod Nine
+mod Below
+mod Fitted
+mod Parity
 mod Rows

@@ -27,10 +27,10 @@ oddFrom i (c ∷ cs) = cond (eqb (ones c % 2) 0) (oddFrom (suc i) cs) (Some i)
 
 -- ---- a record of characters
 
-abbrev pub nineBits : List ℕ → Bool
-nineBits [] = true
-nineBits (c ∷ cs) = ltb c 512 && nineBits cs
+abbrev pub allBelow : ℕ → List ℕ → Bool
+allBelow n [] = true
+allBelow n (c ∷ cs) = ltb c n && allBelow n cs
 
 -- The refusal of a load, by its number: over 66 characters first, then a number above 511.
 abbrev pub loadRefusal : List ℕ → Option ℕ
-loadRefusal cs = cond (ltb 66 (length cs)) (Some 1) (cond (nineBits cs) None (Some 2))
+loadRefusal cs = cond (ltb 66 (length cs)) (Some 1) (cond (allBelow 512 cs) None (Some 2))

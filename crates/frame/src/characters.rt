@@ -3,8 +3,9 @@ ghost use mathlib.Core.Bool.{true};
 ghost use mathlib.Core.Path.{_≡_};
 ghost use lib.ListN.{length};
 ghost use Prim.Native.Nat.{_≤_};
-ghost use Rattle.frame.specs.Character.{nineBits};
+ghost use Rattle.frame.specs.Character.{allBelow};
 
+pub mod coding;
 pub mod load;
 
 /// The most characters that a message has.
@@ -16,5 +17,5 @@ pub struct Characters {
     items: [u16; 66],
     len: usize,
     ghost room: { len ≤ 66 },
-    ghost nine: { nineBits items ≡ true },
+    ghost nine: { allBelow 512 items ≡ true },
 }

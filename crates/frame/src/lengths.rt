@@ -1,6 +1,7 @@
 //! The three lengths of a line, fixed when it is opened.
 ghost use mathlib.Core.Bool.{true, false};
 ghost use mathlib.Core.Path.{_≡_};
+ghost use Prim.Native.Nat.{_≤_};
 ghost use Rattle.frame.specs.Lengths.{lengthsFit};
 ghost use Rattle.frame.specs.Numbers.{refusalNumber};
 ghost use Rattle.std.specs.Results.{Cases};
@@ -29,21 +30,24 @@ impl Lengths {
 
     /// On-request octets of a message that carries any.
     pub fn od(&self) -> usize
-        ensures { λ r. ⌜ r ≡ now (self .entry) .od ⌝ }
+        ensures value { λ r. ⌜ r ≡ now (self .entry) .od ⌝ }
+        ensures bound { λ r. ⌜ r ≤ 32 ⌝ }
     {
         self.od
     }
 
     /// Octets of process data in, from the Device to the Master.
     pub fn pd_in(&self) -> usize
-        ensures { λ r. ⌜ r ≡ now (self .entry) .«pd_in» ⌝ }
+        ensures value { λ r. ⌜ r ≡ now (self .entry) .«pd_in» ⌝ }
+        ensures bound { λ r. ⌜ r ≤ 32 ⌝ }
     {
         self.pd_in
     }
 
     /// Octets of process data out, from the Master to the Device.
     pub fn pd_out(&self) -> usize
-        ensures { λ r. ⌜ r ≡ now (self .entry) .«pd_out» ⌝ }
+        ensures value { λ r. ⌜ r ≡ now (self .entry) .«pd_out» ⌝ }
+        ensures bound { λ r. ⌜ r ≤ 32 ⌝ }
     {
         self.pd_out
     }

@@ -1,7 +1,9 @@
 //! A short row of octets in a fixed memory, with a list's interface.
 ghost use lib.ListN.{length};
+ghost use mathlib.Core.Bool.{true};
 ghost use mathlib.Core.Path.{_≡_};
 ghost use Prim.Native.Nat.{_≤_};
+ghost use Rattle.frame.specs.Character.{allBelow};
 
 pub mod row;
 
@@ -12,4 +14,5 @@ pub struct Octets<const N: usize> {
     len: usize,
     ghost full: { length items ≡ N },
     ghost room: { len ≤ N },
+    ghost eight: { allBelow 256 items ≡ true },
 }

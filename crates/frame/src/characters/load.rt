@@ -3,7 +3,7 @@ ghost use mathlib.Core.List.{[], _∷_, _++_};
 ghost use mathlib.Core.Path.{_≡_};
 ghost use lib.ListN.{length};
 ghost use Prim.Native.Nat.{_<_, _≤_};
-ghost use Rattle.frame.specs.Character.{loadRefusal, nineBits};
+ghost use Rattle.frame.specs.Character.{allBelow, loadRefusal};
 ghost use Rattle.frame.specs.Characters.{characters};
 ghost use Rattle.frame.specs.Numbers.{refusalNumber};
 ghost use Rattle.std.specs.declared.option.Option.the-variants.{Some, None};
@@ -58,7 +58,7 @@ impl Characters {
     pub fn as_slice(&self) -> &[u16]
         ensures value { λ r. ⌜ now r ≡ characters (now (self .entry)) ⌝ }
         ensures bound { λ r. ⌜ length (now r) ≤ 66 ⌝ }
-        ensures nine { λ r. ⌜ nineBits (now r) ≡ true ⌝ }
+        ensures nine { λ r. ⌜ allBelow 512 (now r) ≡ true ⌝ }
     {
         &self.items[0..self.len]
     }

@@ -1,10 +1,11 @@
-ghost use mathlib.Core.Bool.{cond};
+ghost use mathlib.Core.Bool.{true, cond};
 ghost use mathlib.Core.List.{[], _∷_, _++_};
 ghost use mathlib.Core.Path.{_≡_};
-ghost use lib.Dec.{ltb};
-ghost use lib.ListN.{length};
+ghost use lib.Dec.{leb, ltb};
+ghost use lib.ListN.{length, set};
 ghost use Prim.Native.Nat.{_+_, _<_, _≤_};
-ghost use Rattle.frame.specs.Octets.{octets};
+ghost use Rattle.frame.specs.Character.{allBelow};
+ghost use Rattle.frame.specs.Octets.{fitted, octets};
 ghost use Rattle.std.specs.Options.{Cases as BySome};
 use super::Octets;
 
@@ -43,9 +44,39 @@ impl<const N: usize> Octets<N> {
         true
     }
 
+    /// The first `count` octets of `more`, filled up with 00, at the end, and true; where there is
+    /// no room for them the row stays as it is, and the answer is false.
+    pub fn append(&mut self, more: &[u8], count: usize) -> bool
+        ensures room { λ r. ⌜ r ≡ leb (length (octets (now (self .entry))) + count) N ⌝ }
+        ensures after { λ r. ⌜ octets (now (self .exit)) ≡ cond r (octets (now (self .entry)) ++ fitted count (now (more .entry))) (octets (now (self .entry))) ⌝ }
+    {
+        if count > N - self.len {
+            return false;
+        }
+        for i in 0..count {
+            let octet = if i < more.len() { more[i] } else { 0 };
+            self.push(octet);
+        }
+        true
+    }
+
+    /// Another octet at a place, and true; where the row has no such place it stays as it is, and
+    /// the answer is false.
+    pub fn put(&mut self, place: usize, octet: u8) -> bool
+        ensures within { λ r. ⌜ r ≡ ltb place (length (octets (now (self .entry)))) ⌝ }
+        ensures after { λ r. ⌜ octets (now (self .exit)) ≡ set (octets (now (self .entry))) place octet ⌝ }
+    {
+        if place >= self.len {
+            return false;
+        }
+        self.items[place] = octet;
+        true
+    }
+
     pub fn as_slice(&self) -> &[u8]
         ensures value { λ r. ⌜ now r ≡ octets (now (self .entry)) ⌝ }
         ensures bound { λ r. ⌜ length (now r) ≤ N ⌝ }
+        ensures eight { λ r. ⌜ allBelow 256 (now r) ≡ true ⌝ }
     {
         let all = &self.items[..];
         &all[0..self.len]

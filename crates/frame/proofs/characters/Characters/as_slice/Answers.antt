@@ -1,6 +1,6 @@
 use borrow.Author.Needs.{needs}
 use native.Mathlib.Numerals.{unary-clauses}
-use Rattle.frame.proofs.Nine.{nine-take}
+use Rattle.frame.proofs.Below.{below-take}
 use Rattle.frame.proofs.characters.Characters.as_slice.Needs as need
 
 pub returns : need.returns
@@ -8,5 +8,5 @@ returns c =
     record {
       value = search needs;
       bound = search needs;
-      nine = simp unary-clauses (nine-take (c .args .self .now .len) (c .args .self .now .items) (c .args .self .now .nine));
+      nine = simp unary-clauses (below-take 512 (c .args .self .now .len) (c .args .self .now .items) (c .args .self .now .nine));
     }

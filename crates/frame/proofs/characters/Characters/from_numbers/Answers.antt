@@ -7,7 +7,7 @@ use lib.ListN.{getD}
 use lib.Seq.{take-all}
 use Rattle.std.proofs.shelf.Elements.{all-more}
 use Rattle.std.proofs.shelf.Lists.{take-more}
-use Rattle.frame.proofs.Nine.{load-granted, load-large}
+use Rattle.frame.proofs.Below.{load-granted, load-large}
 use Rattle.frame.proofs.characters.Characters.from_numbers.Needs as need
 
 pub returns-then-number-gt511 : need.returns-then-number-gt511

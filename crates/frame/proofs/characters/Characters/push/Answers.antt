@@ -4,14 +4,14 @@ use mathlib.Core.List.{List}
 use native.Mathlib.Omega.{arith}
 use lib.ListN.{length, length-take}
 use Rattle.std.proofs.shelf.Lists.{take-more-set}
-use Rattle.frame.proofs.Nine.{nine-set}
+use Rattle.frame.proofs.Below.{below-set}
 use Rattle.frame.proofs.characters.Characters.push.Needs as need
 
 pub ghost-self : need.ghost-self
 ghost-self c =
     let items : List ℕ = c .args .self .now .items in
     let at : ℕ = c .args .self .now .len in
-    (omega (arith, length-take at items), (nine-set items at (c .args .number) (c .pre .nine) (c .args .self .now .nine), tt))
+    (omega (arith, length-take at items), (below-set 512 items at (c .args .number) (c .pre .nine) (c .args .self .now .nine), tt))
 
 pub returns : need.returns
 returns c =

@@ -3,10 +3,17 @@ use mathlib.Core.Path.{_≡_, sym}
 use mathlib.Core.List.{List}
 use Prim.Native.Nat.{ℕ, _<_}
 use native.Mathlib.Omega.{arith}
-use lib.ListN.{length, length-take}
+use lib.ListN.{length, length-set, length-take}
 use borrow.Author.Tests.{lt-ltb}
 use Rattle.std.proofs.shelf.Lists.{take-more-set}
+use Rattle.frame.proofs.Below.{below-set}
 use Rattle.frame.proofs.octets.Octets.push.Needs as need
+
+pub ghost-self : need.ghost-self
+ghost-self g c =
+    let items : List ℕ = c .args .self .now .items in
+    let at : ℕ = c .args .self .now .len in
+    (simp length-set (c .args .self .now .full), (omega arith, (below-set 256 items at (c .args .octet) (omega arith) (c .args .self .now .eight), tt)))
 
 pub returns : need.returns
 returns g c =

@@ -1,0 +1,29 @@
+-- Each turn appends the next octet, or 00 past the end.
+use mathlib.Core.Path.{_≡_, ap, sym, _∙_}
+use mathlib.Core.List.{List}
+use Prim.Native.Nat.{ℕ, _<_}
+use native.Mathlib.Omega.{arith}
+use lib.ListN.{length, getD, length-append, length-take}
+use borrow.Author.Tests.{lt-ltb}
+use Rattle.std.proofs.shelf.Lists.{getD-past}
+use Rattle.frame.specs.Octets.{fitted, octets}
+use Rattle.frame.proofs.Fitted.{fitted-more, length-fitted}
+use Rattle.frame.proofs.octets.Octets.append.Needs as need
+use Rattle.frame.proofs.octets.Octets.append.Needs.{then-i-more, else-i-more}
+
+pub loop-i-again : need.loop-i-again
+loop-i-again g c =
+    let os : List ℕ = c .args .more .now in
+    let i : ℕ = c .loop-i .i in
+    let o : c .if-i-more .octet ≡ getD os i 0 =
+    elim (c .if-i-more .came) [ then-i-more w ↦ w .octet-is | else-i-more w ↦ w .octet-is ∙ sym (getD-past os i 0 (w .if-i-more .left)) ] in
+    let before : List ℕ = octets (c .args .self .now) in
+    let room : length (octets (c .loop-i .self)) < g .N =
+    omega (
+      arith,
+      ap length (c .loop-i .inv),
+      length-append before (fitted i os),
+      length-fitted i os,
+      length-take (c .args .self .now .len) (c .args .self .now .items),
+    ) in
+    fitted-more os _ _ _ i _ _ o (c .push .ensures .room ∙ lt-ltb _ _ room) (c .push .ensures .after) (c .loop-i .inv)
