@@ -1,4 +1,14 @@
+mod AnswerBack
+mod Apart
 mod Below
+mod Caught
+mod Coding
+mod Controls
 mod Fitted
+mod Good
+mod MasterBack
+mod Ones
 mod Parity
 mod Rows
+mod Sealed
+mod Written

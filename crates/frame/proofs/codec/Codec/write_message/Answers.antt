@@ -1,0 +1,22 @@
+-- The row that is filled part by part is the message's octets.
+use mathlib.Core.Path.{_≡_, ap, _∙_}
+use mathlib.Core.List.{List, _∷_, _++_}
+use Prim.Native.Nat.{ℕ, _*_}
+use Rattle.frame.specs.Message.{masterMessage, sealed, sentOd}
+use Rattle.frame.specs.Octets.{fitted}
+use Rattle.frame.proofs.Written.{master-row}
+use Rattle.frame.proofs.codec.Codec.write_message.Needs as need
+
+-- equal parts make equal rows
+same : (c c′ k k′ q q′ s s′ : ℕ) (outs outs′ od od′ : List ℕ) → c ≡ c′ → k ≡ k′ → q ≡ q′ → s ≡ s′ → outs ≡ outs′ → od ≡ od′
+    → c ∷ k * 64 ∷ (fitted q outs ++ fitted s od) ≡ c′ ∷ k′ * 64 ∷ (fitted q′ outs′ ++ fitted s′ od′)
+same c c′ k k′ q q′ s s′ outs outs′ od od′ e₁ e₂ e₃ e₄ e₅ e₆ = cc
+
+pub returns : need.returns
+unfolding masterMessage
+returns c =
+    c .sealed-characters .ensures
+    ∙ ap (sealed 1) (
+      master-row _ _ _ _ _ _ _ _ _ _ _ _ _ _ _ (c .pd-out .ensures .bound) (c .sent .ensures .bound) (c .new-row .ensures) (c .push .ensures .room) (c .push .ensures .after) (c .push-2 .ensures .room) (c .push-2 .ensures .after) (c .append .ensures .room) (c .append .ensures .after) (c .append-2 .ensures .room) (c .append-2 .ensures .after)
+      ∙ same _ _ _ _ _ _ _ _ _ _ _ _ (c .to-octet .ensures .value) (c .bits .ensures .value) (c .pd-out .ensures .value) (c .sent .ensures .value ∙ ap (λ a. sentOd a (c .args .self .now .lengths .od)) (c .access .ensures)) (c .as-slice .ensures .value) (c .as-slice-2 .ensures .value)
+    )
