@@ -35,7 +35,7 @@ pub record Octetful (r : AnswerParts) : Type 0 where
 status-below : (e i : Bool) → statusBits e i < 256
 status-below e i = grind (arith, tells)
 
-status-clear : (e i : Bool) → statusBits e i % 64 ≡ 0
+pub status-clear : (e i : Bool) → statusBits e i % 64 ≡ 0
 status-clear true true = refl
 status-clear true false = refl
 status-clear false true = refl
@@ -52,7 +52,7 @@ status-upper t h = grind (arith, tells)
 
 -- ---- an answer's octets by their place: xs before, ys next, and one octet last
 
-last-at : (xs ys : List ℕ) (x n : ℕ) → length xs + length ys ≡ n → getD (xs ++ (ys ++ x ∷ [])) n 0 ≡ x
+pub last-at : (xs ys : List ℕ) (x n : ℕ) → length xs + length ys ≡ n → getD (xs ++ (ys ++ x ∷ [])) n 0 ≡ x
 last-at xs ys x n l =
     ap (λ (zs : List ℕ). getD zs n 0) (sym (append-assoc xs ys (x ∷ [])))
     ∙ getD-at (xs ++ ys) x [] 0 n (length-append xs ys ∙ l)
@@ -63,7 +63,7 @@ last-set xs ys x y n l =
     ∙ set-at (xs ++ ys) x [] y n (length-append xs ys ∙ l)
     ∙ append-assoc xs ys (y ∷ [])
 
-length-all : (xs ys : List ℕ) (x n : ℕ) → length xs + length ys ≡ n → length (xs ++ (ys ++ x ∷ [])) ≡ n + 1
+pub length-all : (xs ys : List ℕ) (x n : ℕ) → length xs + length ys ≡ n → length (xs ++ (ys ++ x ∷ [])) ≡ n + 1
 length-all xs ys x n l = omega (arith, length-append xs (ys ++ x ∷ []), length-append ys (x ∷ []))
 
 -- ---- written, then read
@@ -111,7 +111,7 @@ answer-back n p a r w =
     ap (λ f. unless f (answerParts n p a (map octet (sealed (k + p) os)))) none
     ∙ ap (λ (l : List ℕ). Ok (answerParts n p a l)) e
     ∙ ap Ok (
-      parts-of n p a od ins v (r .event) (r .invalid) lo li (ap (bit 128) value ∙ flag-back (r .event) (r .invalid) (checkAt (k + p) os) small) (ap (bit 64) value ∙ mark-back (r .event) (r .invalid) (checkAt (k + p) os) small)
+    parts-of n p a od ins v (r .event) (r .invalid) lo li (ap (bit 128) value ∙ flag-back (r .event) (r .invalid) (checkAt (k + p) os) small) (ap (bit 64) value ∙ mark-back (r .event) (r .invalid) (checkAt (k + p) os) small)
     )
 
 -- ---- read, then written
@@ -139,8 +139,8 @@ answer-written n p a cs nine h =
     let g = answer-good n p a cs nine h in
     let within : k < length (map octet cs) = omega (arith, g .count) in
     sym (
-      ap (sealed k) (parts-octets n p a (map octet cs) (octets-below cs) (g .count))
-      ∙ good-sealed (answerCount n p a) k cs g within
+    ap (sealed k) (parts-octets n p a (map octet cs) (octets-below cs) (g .count))
+    ∙ good-sealed (answerCount n p a) k cs g within
     )
 
 -- ---- disturbed
@@ -152,12 +152,12 @@ answer-sturdy n p a cs nine h =
       good = h;
       bits = λ ms l small low high h′. apart (answeredOd a n + p) cs ms g (answer-good n p a (turned cs ms) (turned-nine cs ms nine small) h′) l low high;
       cut = λ k less h′.
-        omega (
-          arith,
-          g .count,
-          answer-good n p a (take k cs) (all-take (λ c. c < 512) k cs nine) h′ .count,
-          length-map cs octet,
-          length-map (take k cs) octet,
-          length-take k cs,
-        );
+          omega (
+            arith,
+            g .count,
+            answer-good n p a (take k cs) (all-take (λ c. c < 512) k cs nine) h′ .count,
+            length-map cs octet,
+            length-map (take k cs) octet,
+            length-take k cs,
+          );
     }

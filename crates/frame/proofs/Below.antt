@@ -15,6 +15,10 @@ use Rattle.std.proofs.shelf.Elements.{all-getD, all-set, all-take}
 use Rattle.std.proofs.shelf.Tests.{cases-bool, and-from}
 use Rattle.std.proofs.shelf.Ways.{decides-by-and, decides-ltb}
 use Rattle.frame.specs.Character.{allBelow, loadRefusal}
+use Rattle.frame.specs.Characters.{characters}
+use Rattle.frame.specs.Octets.{octets}
+use Rattle.frame.specs.declared.characters.Characters.{Characters}
+use Rattle.frame.specs.declared.octets.Octets.{Octets}
 
 pub below-decides : (n : ℕ) (xs : List ℕ) → Decides (allBelow n xs) (All (λ x. x < n) xs)
 below-decides n xs = decides-by-and (λ x. ltb x n) (λ x. x < n) (allBelow n) (λ x. decides-ltb x n) refl (λ _ _. refl) xs
@@ -42,3 +46,11 @@ load-large cs i few l h =
       | inr f ↦ f
     ] in
     rw (le-ltb 66 (length cs) few, large)
+
+-- a row holds octets
+pub row-octets : {n : ℕ} (o : Octets n) → All (λ x. x < 256) (octets o)
+row-octets o = below-decides 256 (octets o) .0 (below-take 256 (o .len) (o .items) (o .eight))
+
+-- a record holds characters of nine bits
+pub record-nine : (r : Characters) → All (λ c. c < 512) (characters r)
+record-nine r = below-decides 512 (characters r) .0 (below-take 512 (r .len) (r .items) (r .nine))

@@ -23,4 +23,3 @@ control-access a ch h = grind (arith, tells)
 
 pub control-channel : (a : Access) (ch : Channel) → isChannel ch ≡ true → channelOf (controlOctet a ch) ≡ ch
 control-channel a ch h = grind (arith, tells)
-

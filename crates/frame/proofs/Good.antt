@@ -78,9 +78,9 @@ not-silent (c ∷ cs) h = refl
 parity : (cs : List ℕ) → odd cs ≡ None → oddFrom 0 cs ≡ None
 parity cs h = go (oddFrom 0 cs) h
   where
-  go : (o : Option ℕ) → mapped Parity o ≡ None → o ≡ None
-  go None e = refl
-  go (Some i) e = grind arith
+    go : (o : Option ℕ) → mapped Parity o ≡ None → o ≡ None
+    go None e = refl
+    go (Some i) e = grind arith
 
 no-odd : (cs : List ℕ) → oddFrom 0 cs ≡ None → odd cs ≡ None
 no-odd cs e = rw e
@@ -95,15 +95,14 @@ master-good kind n q cs nine h =
     let o = first-none (odd cs) _ (s .1) in
     let m = first-none (miscounted (masterCount n q (map octet cs)) (map octet cs)) _ (o .1) in
     let t = first-none (mistyped kind 1 (map octet cs)) _ (m .1) in
-    let u = first-none (unchecked 1 (map octet cs)) _ (t .1) in
-    (
+    let u = first-none (unchecked 1 (map octet cs)) _ (t .1) in (
       record {
         some = some-of cs (s .0);
         chars = chars cs nine (even-all 0 cs (parity cs (o .0)));
         count = eqb-true _ _ (passed _ _ (m .0));
         check = eqb-true _ _ (passed _ _ (u .0));
       },
-      eqb-true _ _ (passed _ _ (t .0))
+      eqb-true _ _ (passed _ _ (t .0)),
     )
 
 pub good-master : (kind n q : ℕ) (cs : List ℕ) → Good (masterCount n q (map octet cs)) 1 cs → getD (map octet cs) 1 0 / 64 ≡ kind

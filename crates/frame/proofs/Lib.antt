@@ -1,12 +1,13 @@
-mod AnswerBack
+pub mod AnswerBack
 mod Apart
 mod Below
 mod Caught
 mod Coding
-mod Controls
-mod Fitted
+pub mod Controls
+pub mod Fitted
 mod Good
-mod MasterBack
+mod Heard
+pub mod MasterBack
 mod Ones
 mod Parity
 mod Rows

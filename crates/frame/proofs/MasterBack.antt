@@ -36,14 +36,13 @@ pub record Octetful (m : MasterParts) : Type 0 where
 -- ---- written, then read
 
 octets-of : (kind n q : ℕ) (m : MasterParts) → kind < 4 → Octetful m → All (λ o. o < 256) (masterOctets kind n q m)
-octets-of kind n q m h w =
-    (
-      control-below (m .access) (m .channel) (w .exists),
-      (
-        omega arith,
-        all-append (λ o. o < 256) (fitted q (m .outputs)) (fitted (sentOd (m .access) n) (m .onRequest)) (fitted-octets q (m .outputs) (w .outputs)) (fitted-octets (sentOd (m .access) n) (m .onRequest) (w .onRequest))
-      )
-    )
+octets-of kind n q m h w = (
+  control-below (m .access) (m .channel) (w .exists),
+  (
+    omega arith,
+    all-append (λ o. o < 256) (fitted q (m .outputs)) (fitted (sentOd (m .access) n) (m .onRequest)) (fitted-octets q (m .outputs) (w .outputs)) (fitted-octets (sentOd (m .access) n) (m .onRequest) (w .onRequest)),
+  ),
+)
 
 same-parts : (a a′ : Access) (ch ch′ : Channel) (outs outs′ od od′ : List ℕ) → a ≡ a′ → ch ≡ ch′ → outs ≡ outs′ → od ≡ od′
     → _≡_ {A = MasterParts} record { access = a; channel = ch; outputs = outs; onRequest = od }
@@ -75,7 +74,7 @@ master-back kind n q m h w =
     ap (λ f. unless f (masterParts q (map octet (sealed 1 os)))) none
     ∙ ap (λ (l : List ℕ). Ok (masterParts q l)) e
     ∙ ap Ok (
-      same-parts _ _ _ _ _ _ _ _ a (control-channel (m .access) (m .channel) (w .exists)) (take-at outs od q (length-fitted q (m .outputs))) (drop-at outs od q (length-fitted q (m .outputs)))
+    same-parts _ _ _ _ _ _ _ _ a (control-channel (m .access) (m .channel) (w .exists)) (take-at outs od q (length-fitted q (m .outputs))) (drop-at outs od q (length-fitted q (m .outputs)))
     )
 
 -- ---- read, then written
@@ -101,8 +100,8 @@ master-written kind n q cs nine h =
     let g = master-good kind n q cs nine h in
     let two : 1 < length (map octet cs) = omega (arith, g .0 .count) in
     sym (
-      ap (sealed 1) (parts-octets kind n q (map octet cs) (octets-below cs) (g .0 .count) (g .1))
-      ∙ good-sealed (masterCount n q (map octet cs)) 1 cs (g .0) two
+    ap (sealed 1) (parts-octets kind n q (map octet cs) (octets-below cs) (g .0 .count) (g .1))
+    ∙ good-sealed (masterCount n q (map octet cs)) 1 cs (g .0) two
     )
 
 -- ---- disturbed

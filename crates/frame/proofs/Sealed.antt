@@ -24,8 +24,8 @@ check-small k os = omega arith
 check-same : (k v : ℕ) (os : List ℕ) → k < length os → bitAnd v 0xc0 ≡ bitAnd (getD os k 0) 0xc0 → checkAt k (set os k v) ≡ checkAt k os
 check-same k v os h e =
     ap (λ (l : List ℕ). sixBits (folded bitXor 0x52 l)) (
-      ap (λ (x : ℕ). set (set os k v) k (bitAnd x 0xc0)) (getD-set-same os k v 0 h) ∙ set-set os k v (bitAnd v 0xc0)
-      ∙ ap (set os k) e
+    ap (λ (x : ℕ). set (set os k v) k (bitAnd x 0xc0)) (getD-set-same os k v 0 h) ∙ set-set os k v (bitAnd v 0xc0)
+    ∙ ap (set os k) e
     )
 
 -- ---- written

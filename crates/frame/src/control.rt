@@ -5,12 +5,12 @@ ghost use Prim.Native.Nat.{_<_};
 ghost use Rattle.frame.specs.Control.{accessOf, channelOf, controlOctet, flowOf, isChannel};
 ghost use Rattle.std.specs.Options.{Cases as BySome};
 use crate::channel::Access;
-use crate::channel::Channel;
-use crate::channel::FlowCtrl;
 use crate::channel::AccessDebug;
 use crate::channel::AccessPartialEq;
+use crate::channel::Channel;
 use crate::channel::ChannelDebug;
 use crate::channel::ChannelPartialEq;
+use crate::channel::FlowCtrl;
 
 /// The first octet of a Master message.
 #[derive(Clone, Copy, PartialEq, Eq, Debug)]
@@ -27,12 +27,17 @@ impl Control {
         ensures { λ r. ⌜ BySome r (isChannel channel ≡ false) (λ c. (isChannel channel ≡ true) × (c .access ≡ access) × (c .channel ≡ channel)) ⌝ }
     {
         let exists = match channel {
-            Channel::Process(address) | Channel::Page(address) | Channel::Diagnosis(address) => address < 32,
+            Channel::Process(address) | Channel::Page(address) | Channel::Diagnosis(address) =>
+                address < 32,
             Channel::Isdu(FlowCtrl::Count(count)) => count < 16,
             Channel::Isdu(FlowCtrl::Reserved(value)) => value > 17 && value < 31,
             Channel::Isdu(_) => true,
         };
-        if exists { Some(Control { access, channel }) } else { None }
+        if exists {
+            Some(Control { access, channel })
+        } else {
+            None
+        }
     }
 
     pub fn from_octet(octet: u8) -> Control
@@ -40,7 +45,11 @@ impl Control {
         ensures channel { λ r. ⌜ r .channel ≡ channelOf octet ⌝ }
         ensures back { λ r. ⌜ controlOctet (r .access) (r .channel) ≡ octet ⌝ }
     {
-        let access = if octet >= 0x80 { Access::Read } else { Access::Write };
+        let access = if octet >= 0x80 {
+            Access::Read
+        } else {
+            Access::Write
+        };
         let low = octet % 32;
         let channel = match octet / 32 % 4 {
             0 => Channel::Process(low),

@@ -17,7 +17,10 @@ impl Characters {
     pub fn new() -> Characters
         ensures { λ r. ⌜ characters r ≡ [] ⌝ }
     {
-        Characters { items: [0; MOST], len: 0 }
+        Characters {
+            items: [0; MOST],
+            len: 0,
+        }
     }
 
     /// Holds the numbers in place of what it held, if they are characters.

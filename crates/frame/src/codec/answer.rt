@@ -1,8 +1,12 @@
 ghost use mathlib.Core.Path.{_≡_};
 ghost use Prim.Native.Nat.{_+_, _≤_};
 ghost use Rattle.frame.specs.Characters.{characters};
-ghost use Rattle.frame.specs.Message.{answerMessage, answeredOd, readAnswer};
-ghost use Rattle.frame.specs.View.{answerView, heard};
+ghost use Rattle.frame.specs.Disturbed.{Sturdy};
+ghost use Rattle.frame.specs.Fault.{firstOf};
+ghost use Rattle.frame.specs.Message.{answerParts, answerTests, answeredOd, statusBits, unless};
+ghost use Rattle.frame.specs.View.{answerView, answeredBy, answeredFault, heard, returnedBy, takenBy};
+ghost use Rattle.std.specs.declared.result.Result.the-variants.{Ok};
+ghost use Rattle.std.specs.Vec.{made};
 use super::Codec;
 use super::seal::sealed_characters;
 use super::seal::short_row;
@@ -12,6 +16,15 @@ use crate::check::checksum;
 use crate::fault::Fault;
 use crate::message::Answer;
 use crate::octets::Octets;
+
+// The event flag in bit 7, the mark of invalid inputs in bit 6.
+fn status_bits(event: bool, invalid: bool) -> u8
+    ensures { λ r. ⌜ r ≡ statusBits event invalid ⌝ }
+{
+    let flag = if event { 0x80 } else { 0 };
+    let mark = if invalid { 0x40 } else { 0 };
+    flag + mark
+}
 
 impl Codec {
     // On-request octets of an answer.
@@ -28,25 +41,31 @@ impl Codec {
     /// The characters of the answer to an access. On-request octets and inputs are cut or filled
     /// up with 00 to what the line carries.
     pub fn write_answer(&self, access: Access, answer: &Answer) -> Characters
-        ensures { λ r. ⌜ characters r ≡ answerMessage (now (self .entry) .lengths .od) (now (self .entry) .lengths .«pd_in») access (answerView (now (answer .entry))) ⌝ }
+        ensures value { λ r. ⌜ characters r ≡ answeredBy (now (self .entry)) access (answerView (now (answer .entry))) ⌝ }
+        ensures back { λ r. ⌜ takenBy (now (self .entry)) access (characters r) ≡ Ok (returnedBy (now (self .entry)) access (answerView (now (answer .entry)))) ⌝ }
     {
         let answered = self.answered(access);
         let inputs = self.lengths.pd_in();
-        let event = if answer.event { 0x80 } else { 0 };
-        let invalid = if answer.invalid { 0x40 } else { 0 };
         let mut row = Octets::new();
         row.append(answer.on_request.as_slice(), answered);
         row.append(answer.inputs.as_slice(), inputs);
-        row.push(event + invalid);
+        row.push(status_bits(answer.event, answer.invalid));
         sealed_characters(row, answered + inputs)
     }
 
     /// The answer to an access, or the first fault.
     pub fn read_answer(&self, access: Access, record: &Characters) -> Result<Answer, Fault>
-        ensures { λ r. ⌜ heard answerView r ≡ readAnswer (now (self .entry) .lengths .od) (now (self .entry) .lengths .«pd_in») access (characters (now («record» .entry))) ⌝ }
+        ensures value { λ r. ⌜ heard answerView r ≡ takenBy (now (self .entry)) access (characters (now («record» .entry))) ⌝ }
+        ensures written { λ r. ⌜ made r (λ m. characters (now («record» .entry)) ≡ answeredBy (now (self .entry)) access (answerView m)) ⌝ }
+        ensures sturdy { λ r. ⌜ made r (λ _. Sturdy (answeredFault (now (self .entry)) access) (characters (now («record» .entry)))) ⌝ }
     {
         let row = record.octets()?;
-        let octets = row.as_slice();
+        self.answer_of(access, row.as_slice())
+    }
+
+    fn answer_of(&self, access: Access, octets: &[u8]) -> Result<Answer, Fault>
+        ensures { λ r. ⌜ heard answerView r ≡ unless (firstOf (answerTests (now (self .entry) .lengths .od) (now (self .entry) .lengths .«pd_in») access (now (octets .entry)))) (answerParts (now (self .entry) .lengths .od) (now (self .entry) .lengths .«pd_in») access (now (octets .entry))) ⌝ }
+    {
         let answered = self.answered(access);
         let place = answered + self.lengths.pd_in();
         if octets.len() != place + 1 {

@@ -14,7 +14,10 @@ impl<const N: usize> Octets<N> {
     pub fn new() -> Self
         ensures { λ r. ⌜ octets r ≡ [] ⌝ }
     {
-        Octets { items: [0; N], len: 0 }
+        Octets {
+            items: [0; N],
+            len: 0,
+        }
     }
 
     /// The octets of a slice, if there is room for them.

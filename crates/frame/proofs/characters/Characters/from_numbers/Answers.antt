@@ -16,10 +16,9 @@ returns-then-number-gt511 c = load-large (c .args .numbers .now) (c .loop-number
 pub loop-number-again : need.loop-number-again
 loop-number-again c =
     let xs : List ℕ = c .args .numbers .now in
-    let i : ℕ = c .loop-number .number-index in
-    (
+    let i : ℕ = c .loop-number .number-index in (
       c .push .ensures ∙ ap (λ (l : List ℕ). l ++ getD xs i 0 ∷ []) (c .loop-number .inv .0) ∙ sym (take-more xs i 0 (c .loop-number-test .taken)),
-      all-more (λ (n : ℕ). n < 512) xs i 0 (c .loop-number-test .taken) (c .loop-number .inv .1) (omega arith)
+      all-more (λ (n : ℕ). n < 512) xs i 0 (c .loop-number-test .taken) (c .loop-number .inv .1) (omega arith),
     )
 
 pub returns : need.returns

@@ -19,17 +19,15 @@ loop-place-again c =
     let cs : List ℕ = c .as-slice-characters .result .now in
     let i : ℕ = c .loop-place .place in
     let found : c .push .result ≡ true =
-    found-room octet cs _ i 66 _ (c .loop-place-test .taken) (c .as-slice-characters .ensures .bound) (c .loop-place .inv .1) (c .push .ensures .room) in
-    (
+    found-room octet cs _ i 66 _ (c .loop-place-test .taken) (c .as-slice-characters .ensures .bound) (c .loop-place .inv .1) (c .push .ensures .room) in (
       odd-more cs i (c .loop-place-test .taken) (c .if-character-ne0 .left) (c .loop-place .inv .0),
-      grown-more octet cs _ _ i _ (c .loop-place-test .taken) refl (pushed _ _ _ _ found (c .push .ensures .after)) (c .loop-place .inv .1)
+      grown-more octet cs _ _ i _ (c .loop-place-test .taken) refl (pushed _ _ _ _ found (c .push .ensures .after)) (c .loop-place .inv .1),
     )
 
 pub returns : need.returns
 returns c =
     let cs : List ℕ = c .as-slice-characters .result .now in
-    let i : ℕ = c .loop-place .place in
-    (
+    let i : ℕ = c .loop-place .place in (
       parity-good _ _ i (c .as-slice-characters .ensures .value) (omega arith) (c .loop-place-test .left) (c .loop-place .inv .0),
-      c .loop-place .inv .1 ∙ ap (map octet) (take-all i cs (c .loop-place-test .left) ∙ c .as-slice-characters .ensures .value)
+      c .loop-place .inv .1 ∙ ap (map octet) (take-all i cs (c .loop-place-test .left) ∙ c .as-slice-characters .ensures .value),
     )

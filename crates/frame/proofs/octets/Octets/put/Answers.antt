@@ -19,10 +19,9 @@ returns-then-place-self g c =
 
 pub ghost-self : need.ghost-self
 ghost-self g c =
-    let items : List ℕ = c .args .self .now .items in
-    (
+    let items : List ℕ = c .args .self .now .items in (
       simp length-set (c .args .self .now .full),
-      (c .args .self .now .room, (below-set 256 items (c .args .place) (c .args .octet) (omega arith) (c .args .self .now .eight), tt))
+      (c .args .self .now .room, (below-set 256 items (c .args .place) (c .args .octet) (omega arith) (c .args .self .now .eight), tt)),
     )
 
 pub returns : need.returns
