@@ -2,13 +2,13 @@
 use mathlib.Core.Path.{_≡_, refl, sym, ap, _∙_}
 use mathlib.Core.Logic.{_⊎_, inl, inr}
 use mathlib.Core.List.{List, [], _∷_, map}
-use Prim.Native.Nat.{ℕ, zero, suc, _+_, _-_, _*_, _/_, _%_, _^_, _≤_, _<_}
+use Prim.Native.Nat.{ℕ, zero, suc, _+_, _*_, _%_, _≤_, _<_}
 use native.Mathlib.Omega.{arith}
 use lib.Bits.{bitAnd, bitXor, xor-lt, xor-assoc, xor-self, and-mask}
 use lib.Count.{ones}
-use lib.ListN.{length, getD, set}
+use lib.ListN.{length, getD}
 use Rattle.std.specs.shelf.Lists.{All, folded}
-use Rattle.frame.specs.Character.{Char, octet}
+use Rattle.characters.specs.Character.{Char, octet}
 use Rattle.frame.specs.Check.{cleared, foldAt}
 use Rattle.frame.specs.Disturbed.{turned, turns}
 use Rattle.frame.proofs.Caught.{Six, six-map, six-both, plain-caught, carrier-caught, fits-each}

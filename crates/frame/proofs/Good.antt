@@ -1,5 +1,5 @@
 -- What it takes for a message to have no fault, test by test.
-use mathlib.Core.Path.{_≡_, refl, ap, _∙_}
+use mathlib.Core.Path.{_≡_, refl}
 use mathlib.Core.Logic.{inl, inr}
 use mathlib.Core.Bool.{Bool, true, false, cond}
 use mathlib.Core.List.{List, [], _∷_, map}
@@ -15,13 +15,14 @@ use Rattle.std.specs.shelf.Lists.{All}
 use Rattle.std.specs.Options.{mapped}
 use Rattle.std.proofs.shelf.Elements.{all-weaker}
 use Rattle.std.proofs.shelf.Tests.{cases-bool}
-use Rattle.frame.specs.Character.{Char, octet, oddFrom}
+use Rattle.characters.specs.Character.{Char, octet, oddFrom}
 use Rattle.frame.specs.Check.{checkAt}
-use Rattle.frame.specs.Fault.{firstOf, odd, silent, miscounted, mistyped, unchecked}
-use Rattle.frame.specs.Message.{masterCount, masterFault, masterTests, answerCount, answerFault, answeredOd}
-use Rattle.frame.specs.declared.channel.Access.{Access}
-use Rattle.frame.specs.declared.fault.Fault.{Fault}
-use Rattle.frame.specs.declared.fault.Fault.the-variants.{Parity}
+use Rattle.characters.specs.Fault.{firstOf, odd, silent}
+use Rattle.frame.specs.Fault.{miscounted, mistyped, unchecked}
+use Rattle.frame.specs.Message.{masterCount, masterFault, answerCount, answerFault, answeredOd}
+use Rattle.control.specs.declared.channel.Access.{Access}
+use Rattle.characters.specs.declared.fault.Fault.{Fault}
+use Rattle.characters.specs.declared.fault.Fault.the-variants.{Parity}
 
 -- the first of several faults is none where each is none
 first-none : (x : Option Fault) (fs : List (Option Fault)) → firstOf (x ∷ fs) ≡ None → (x ≡ None) × (firstOf fs ≡ None)

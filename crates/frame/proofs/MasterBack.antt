@@ -2,28 +2,26 @@
 use mathlib.Core.Path.{_≡_, refl, sym, ap, _∙_, subst}
 use mathlib.Core.Bool.{true}
 use mathlib.Core.List.{List, [], _∷_, _++_, map}
-use Prim.Native.Nat.{ℕ, zero, suc, _+_, _*_, _/_, _%_, _≤_, _<_}
+use Prim.Native.Nat.{ℕ, zero, suc, _+_, _*_, _/_, _<_}
 use native.Mathlib.Omega.{arith}
-use lib.ListN.{length, getD, set, take, drop, length-append, length-map, length-take, length-drop, take-append-drop}
+use lib.ListN.{length, getD, take, drop, length-append, length-map, length-take, length-drop, take-append-drop}
 use Rattle.std.specs.declared.option.Option.the-variants.{None}
-use Rattle.std.specs.declared.result.Result.{Result}
-use Rattle.std.specs.declared.result.Result.the-variants.{Ok, Err}
+use Rattle.std.specs.declared.result.Result.the-variants.{Ok}
 use Rattle.std.specs.shelf.Lists.{All}
-use Rattle.std.proofs.shelf.Elements.{all-append, all-getD, all-take}
+use Rattle.std.proofs.shelf.Elements.{all-append, all-take}
 use Rattle.std.proofs.shelf.Lists.{take-at, drop-at}
-use Rattle.frame.specs.Character.{character, octet}
+use Rattle.characters.specs.Character.{octet}
 use Rattle.frame.specs.Check.{checkAt}
-use Rattle.frame.specs.Control.{accessOf, channelOf, controlOctet, isChannel}
-use Rattle.frame.specs.Disturbed.{turned, turns, Sturdy}
+use Rattle.control.specs.Control.{accessOf, controlOctet, isChannel}
+use Rattle.frame.specs.Disturbed.{turned, Sturdy}
 use Rattle.frame.specs.Message.{MasterParts, masterCount, masterFault, masterFit, masterMessage, masterOctets, masterParts, readMaster, sealed, sentOd, unless}
-use Rattle.frame.specs.Octets.{fitted}
-use Rattle.frame.specs.declared.channel.Access.{Access}
-use Rattle.frame.specs.declared.channel.Channel.{Channel}
-use Rattle.frame.specs.declared.fault.Fault.{Fault}
+use Rattle.octets.specs.Octets.{fitted}
+use Rattle.control.specs.declared.channel.Access.{Access}
+use Rattle.control.specs.declared.channel.Channel.{Channel}
 use Rattle.frame.proofs.Apart.{apart, turned-nine}
-use Rattle.frame.proofs.Coding.{octets-below}
-use Rattle.frame.proofs.Controls.{control-access, control-back, control-below, control-channel}
-use Rattle.frame.proofs.Fitted.{fitted-exact, fitted-octets, length-fitted}
+use Rattle.characters.proofs.OneToOne.{octets-below}
+use Rattle.control.proofs.Controls.{control-access, control-back, control-below, control-channel}
+use Rattle.octets.proofs.Fitted.{fitted-exact, fitted-octets, length-fitted}
 use Rattle.frame.proofs.Good.{Good, good-master, master-good}
 use Rattle.frame.proofs.Sealed.{check-small, good-sealed, octets-sealed, opened, sealed-good}
 
@@ -44,7 +42,7 @@ octets-of kind n q m h w = (
   ),
 )
 
-same-parts : (a a′ : Access) (ch ch′ : Channel) (outs outs′ od od′ : List ℕ) → a ≡ a′ → ch ≡ ch′ → outs ≡ outs′ → od ≡ od′
+pub same-parts : (a a′ : Access) (ch ch′ : Channel) (outs outs′ od od′ : List ℕ) → a ≡ a′ → ch ≡ ch′ → outs ≡ outs′ → od ≡ od′
     → _≡_ {A = MasterParts} record { access = a; channel = ch; outputs = outs; onRequest = od }
     record { access = a′; channel = ch′; outputs = outs′; onRequest = od′ }
 same-parts a a′ ch ch′ outs outs′ od od′ e₁ e₂ e₃ e₄ = rw (e₁, e₂, e₃, e₄)

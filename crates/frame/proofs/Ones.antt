@@ -1,10 +1,10 @@
 -- Counts of ones under a mask: exclusive or adds them, but for ones that meet, which go in pairs.
-use mathlib.Core.Path.{_≡_, refl, sym, ap, ap₂, _∙_, subst}
-use Prim.Native.Nat.{ℕ, zero, suc, _+_, _-_, _*_, _/_, _%_, _^_, _≤_, _<_}
-use native.Mathlib.Nat.{mod-lt, le-of-suc-le-suc, not-suc-le-zero, div-add-mod', zero-lt-suc}
+use mathlib.Core.Path.{_≡_, refl, sym, ap, ap₂, _∙_}
+use Prim.Native.Nat.{ℕ, zero, suc, _+_, _*_, _/_, _%_, _≤_, _<_}
+use native.Mathlib.Nat.{mod-lt, le-of-suc-le-suc, not-suc-le-zero, zero-lt-suc}
 use native.Mathlib.Omega.{arith}
 use lib.Arith.{bin-ind}
-use lib.Bits.{bitAnd, bitXor, and-shr, and-mod, xor-shr, xor-mod, xor-add-and, and-zero-r, and-le-l}
+use lib.Bits.{bitAnd, bitXor, and-shr, and-mod, xor-shr, xor-mod, xor-add-and, and-le-l}
 use lib.Count.{ones, onesIn, ones-step}
 
 two-pos : zero < 2

@@ -1,17 +1,17 @@
 -- Sealed octets are a good message, and every good message is the sealing of its octets.
-use mathlib.Core.Path.{_≡_, refl, sym, ap, ap₂, _∙_}
+use mathlib.Core.Path.{_≡_, sym, ap, _∙_}
 use mathlib.Core.List.{List, map}
-use Prim.Native.Nat.{ℕ, _+_, _*_, _/_, _%_, _^_, _≤_, _<_}
+use Prim.Native.Nat.{ℕ, _+_, _*_, _/_, _%_, _<_}
 use native.Mathlib.Omega.{arith}
 use lib.Bits.{bitAnd, bitXor, and-high}
 use lib.ListN.{length, getD, set, length-map, length-set}
 use Rattle.std.specs.shelf.Lists.{All, folded}
 use Rattle.std.proofs.shelf.Elements.{all-getD, all-set}
 use Rattle.std.proofs.shelf.Lists.{getD-set-same, set-getD, set-set}
-use Rattle.frame.specs.Character.{Char, character, octet}
-use Rattle.frame.specs.Check.{checkAt, cleared, foldAt, sixBits}
+use Rattle.characters.specs.Character.{character, octet}
+use Rattle.frame.specs.Check.{checkAt, sixBits}
 use Rattle.frame.specs.Message.{sealed}
-use Rattle.frame.proofs.Coding.{chars-coded, octets-coded, coded-octets, octets-below}
+use Rattle.characters.proofs.OneToOne.{chars-coded, octets-coded, coded-octets, octets-below}
 use Rattle.frame.proofs.Good.{Good}
 
 upper : (o : ℕ) → o < 256 → bitAnd o 0xc0 ≡ o / 64 * 64

@@ -1,6 +1,6 @@
 -- The check of a message, over its octets; the octet at place k carries it in bits 0 to 5.
 use mathlib.Core.List.{List, [], _∷_}
-use Prim.Native.Nat.{ℕ, _+_, _*_, _%_, _^_}
+use Prim.Native.Nat.{ℕ, _+_, _*_, _%_}
 use lib.Bits.{bitAnd, bitXor}
 use lib.Count.{ones}
 use lib.ListN.{getD, set}

@@ -5,7 +5,7 @@ use Prim.Native.Nat.{ℕ, _+_, _≤_, _<_}
 use lib.Bits.{bitXor}
 use lib.Count.{ones}
 use lib.ListN.{length, take}
-use Rattle.frame.specs.declared.fault.Fault.{Fault}
+use Rattle.characters.specs.declared.fault.Fault.{Fault}
 use Rattle.std.specs.declared.option.Option.{Option}
 use Rattle.std.specs.declared.option.Option.the-variants.{None}
 use Rattle.std.specs.shelf.Lists.{All}

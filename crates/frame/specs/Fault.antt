@@ -1,32 +1,14 @@
--- The tests that a good message passes, and the fault of the first that fails.
+-- The tests that the octets of a good message pass, and the fault where one fails.
 use mathlib.Core.Bool.{cond}
-use mathlib.Core.List.{List, [], _∷_}
+use mathlib.Core.List.{List}
 use Prim.Native.Nat.{ℕ, _/_, _%_}
 use lib.Dec.{eqb}
 use lib.ListN.{length, getD}
-use Rattle.frame.specs.Character.{oddFrom}
+use Rattle.characters.specs.declared.fault.Fault.{Fault}
+use Rattle.characters.specs.declared.fault.Fault.the-variants.{Length, WrongType, Check}
 use Rattle.frame.specs.Check.{checkAt}
-use Rattle.frame.specs.declared.fault.Fault.{Fault}
-use Rattle.frame.specs.declared.fault.Fault.the-variants.{Silence, Parity, Length, WrongType, Check}
 use Rattle.std.specs.declared.option.Option.{Option}
 use Rattle.std.specs.declared.option.Option.the-variants.{Some, None}
-use Rattle.std.specs.Options.{mapped}
-
-abbrev pub firstOf : List (Option Fault) → Option Fault
-firstOf [] = None
-firstOf (None ∷ fs) = firstOf fs
-firstOf (Some f ∷ fs) = Some f
-
--- ---- tests of the characters
-
-abbrev pub silent : List ℕ → Option Fault
-silent [] = Some Silence
-silent (c ∷ cs) = None
-
-abbrev pub odd : List ℕ → Option Fault
-odd cs = mapped Parity (oddFrom 0 cs)
-
--- ---- tests of the octets
 
 abbrev pub miscounted : ℕ → List ℕ → Option Fault
 miscounted count os = cond (eqb (length os) count) None (Some (Length (length os)))

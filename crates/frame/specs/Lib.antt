@@ -1,11 +1,6 @@
-pub mod Character
-pub mod Characters
 pub mod Check
-pub mod Control
 pub mod Disturbed
 pub mod Fault
 pub mod Lengths
 pub mod Message
-pub mod Numbers
-pub mod Octets
 pub mod View

@@ -1,18 +1,19 @@
 -- The messages of both directions: as they are written, and what a receiver reads.
-use mathlib.Core.Bool.{Bool, true, false, cond}
+use mathlib.Core.Bool.{Bool, cond}
 use mathlib.Core.List.{List, [], _∷_, _++_, map}
 use Prim.Native.Nat.{ℕ, _+_, _*_, _/_, _%_}
 use lib.Dec.{eqb}
 use lib.ListN.{getD, set, take, drop}
-use Rattle.frame.specs.Character.{character, octet}
+use Rattle.characters.specs.Character.{character, octet}
 use Rattle.frame.specs.Check.{checkAt}
-use Rattle.frame.specs.Control.{accessOf, channelOf, controlOctet}
-use Rattle.frame.specs.Fault.{firstOf, silent, odd, miscounted, mistyped, unchecked}
-use Rattle.frame.specs.Octets.{fitted}
-use Rattle.frame.specs.declared.channel.Access.{Access}
-use Rattle.frame.specs.declared.channel.Access.the-variants.{Read, Write}
-use Rattle.frame.specs.declared.channel.Channel.{Channel}
-use Rattle.frame.specs.declared.fault.Fault.{Fault}
+use Rattle.control.specs.Control.{accessOf, channelOf, controlOctet}
+use Rattle.characters.specs.Fault.{firstOf, silent, odd}
+use Rattle.frame.specs.Fault.{miscounted, mistyped, unchecked}
+use Rattle.octets.specs.Octets.{fitted}
+use Rattle.control.specs.declared.channel.Access.{Access}
+use Rattle.control.specs.declared.channel.Access.the-variants.{Read, Write}
+use Rattle.control.specs.declared.channel.Channel.{Channel}
+use Rattle.characters.specs.declared.fault.Fault.{Fault}
 use Rattle.std.specs.declared.option.Option.{Option}
 use Rattle.std.specs.declared.option.Option.the-variants.{Some, None}
 use Rattle.std.specs.declared.result.Result.{Result}
@@ -81,8 +82,7 @@ abbrev pub statusBits : Bool → Bool → ℕ
 statusBits event invalid = cond event 128 0 + cond invalid 64 0
 
 abbrev pub answerOctets : ℕ → ℕ → Access → AnswerParts → List ℕ
-answerOctets n p a r =
-    fitted (answeredOd a n) (r .onRequest) ++ (fitted p (r .inputs) ++ statusBits (r .event) (r .invalid) ∷ [])
+answerOctets n p a r = fitted (answeredOd a n) (r .onRequest) ++ fitted p (r .inputs) ++ statusBits (r .event) (r .invalid) ∷ []
 
 unfoldable pub answerMessage : ℕ → ℕ → Access → AnswerParts → List ℕ
 answerMessage n p a r = sealed (answeredOd a n + p) (answerOctets n p a r)

@@ -2,10 +2,10 @@
 use Prim.Native.Nat.{ℕ}
 use mathlib.Core.List.{List}
 use Rattle.frame.specs.Message.{MasterParts, AnswerParts, answerFault, answerFit, answerMessage, masterFault, masterFit, masterMessage, readAnswer, readMaster}
-use Rattle.frame.specs.Octets.{octets}
-use Rattle.frame.specs.declared.channel.Access.{Access}
+use Rattle.octets.specs.Octets.{octets}
+use Rattle.control.specs.declared.channel.Access.{Access}
 use Rattle.frame.specs.declared.codec.Codec.{Codec}
-use Rattle.frame.specs.declared.fault.Fault.{Fault}
+use Rattle.characters.specs.declared.fault.Fault.{Fault}
 use Rattle.frame.specs.declared.message.Answer.{Answer}
 use Rattle.frame.specs.declared.message.MasterMessage.{MasterMessage}
 use Rattle.frame.specs.declared.message.SequenceType.{SequenceType}

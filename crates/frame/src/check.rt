@@ -1,6 +1,6 @@
 //! The check of a message: six bits over all its octets.
 ghost use mathlib.Core.Path.{_≡_};
-ghost use lib.ListN.{length};
+ghost use lib.Bits.{bitAnd};
 ghost use Prim.Native.Nat.{_<_};
 ghost use Rattle.frame.specs.Check.{checkAt, checkBit, foldAt, sixBits};
 
@@ -23,10 +23,21 @@ fn fold(octets: &[u8], place: usize) -> u8
 {
     let mut fold = SEED;
     for (i, octet) in octets.iter().enumerate() {
-        let entering = if i == place { *octet & 0xC0 } else { *octet };
+        let entering = if i == place {
+            upper_bits(*octet)
+        } else {
+            *octet
+        };
         fold ^= entering;
     }
     fold
+}
+
+// Bits 7 and 6, where the octet that carries the check has something else to say.
+fn upper_bits(octet: u8) -> u8
+    ensures { λ r. ⌜ r ≡ bitAnd octet 0xc0 ⌝ }
+{
+    octet & 0xC0
 }
 
 fn six_bits(fold: u8) -> u8

@@ -2,8 +2,8 @@
 ghost use mathlib.Core.Path.{_≡_};
 ghost use Prim.Native.Nat.{_<_};
 ghost use Rattle.frame.specs.View.{kindBits};
-use crate::control::Control;
-use crate::octets::Octets;
+use control::Control;
+use octets::Octets;
 
 /// The M-sequence type in bits 7 and 6 of a Master message's second octet. The line uses type 2.
 #[derive(Clone, Copy, PartialEq, Eq, Debug)]

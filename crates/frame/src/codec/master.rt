@@ -1,22 +1,24 @@
 ghost use mathlib.Core.Path.{_≡_};
 ghost use Prim.Native.Nat.{_+_, _≤_};
-ghost use Rattle.frame.specs.Characters.{characters};
+ghost use Rattle.characters.specs.Characters.{characters};
 ghost use Rattle.frame.specs.Disturbed.{Sturdy};
-ghost use Rattle.frame.specs.Fault.{firstOf};
-ghost use Rattle.frame.specs.Message.{masterParts, masterTests, sentOd, unless};
+ghost use Rattle.characters.specs.Fault.{firstOf};
+ghost use Rattle.frame.specs.Message.{masterOctets, masterParts, masterTests, sentOd};
+ghost use Rattle.octets.specs.Octets.{octets};
 ghost use Rattle.frame.specs.View.{carriedBy, heard, kindBits, masterView, receivedBy, sentBy, sentFault};
+ghost use Rattle.std.specs.declared.option.Option.the-variants.{None};
 ghost use Rattle.std.specs.declared.result.Result.the-variants.{Ok};
 ghost use Rattle.std.specs.Vec.{made};
 use super::Codec;
 use super::seal::sealed_characters;
 use super::seal::short_row;
-use crate::channel::Access;
-use crate::characters::Characters;
 use crate::check::checksum;
-use crate::control::Control;
-use crate::fault::Fault;
 use crate::message::MasterMessage;
-use crate::octets::Octets;
+use characters::Characters;
+use characters::fault::Fault;
+use control::Control;
+use control::channel::Access;
+use octets::Octets;
 
 impl Codec {
     // On-request octets of a Master message.
@@ -36,6 +38,13 @@ impl Codec {
         ensures value { λ r. ⌜ characters r ≡ sentBy (now (self .entry)) (masterView (now (message .entry))) ⌝ }
         ensures back { λ r. ⌜ receivedBy (now (self .entry)) (characters r) ≡ Ok (carriedBy (now (self .entry)) (masterView (now (message .entry)))) ⌝ }
     {
+        sealed_characters(self.message_row(message), 1)
+    }
+
+    // The octets of a Master message, the check's six bits 0.
+    fn message_row(&self, message: &MasterMessage) -> Octets<66>
+        ensures { λ r. ⌜ octets r ≡ masterOctets (kindBits (now (self .entry) .kind)) (now (self .entry) .lengths .od) (now (self .entry) .lengths .«pd_out») (masterView (now (message .entry))) ⌝ }
+    {
         let mut row = Octets::new();
         row.push(message.control.to_octet());
         row.push(self.kind.bits() * 64);
@@ -44,7 +53,7 @@ impl Codec {
             message.on_request.as_slice(),
             self.sent(message.control.access()),
         );
-        sealed_characters(row, 1)
+        row
     }
 
     /// The message of characters, or the first fault.
@@ -54,31 +63,43 @@ impl Codec {
         ensures sturdy { λ r. ⌜ made r (λ _. Sturdy (sentFault (now (self .entry))) (characters (now («record» .entry)))) ⌝ }
     {
         let row = record.octets()?;
-        self.message_of(row.as_slice())
+        let octets = row.as_slice();
+        match self.message_fault(octets) {
+            Some(fault) => Err(fault),
+            None => Ok(self.message_parts(octets)),
+        }
     }
 
-    fn message_of(&self, octets: &[u8]) -> Result<MasterMessage, Fault>
-        ensures { λ r. ⌜ heard masterView r ≡ unless (firstOf (masterTests (kindBits (now (self .entry) .kind)) (now (self .entry) .lengths .od) (now (self .entry) .lengths .«pd_out») (now (octets .entry)))) (masterParts (now (self .entry) .lengths .«pd_out») (now (octets .entry))) ⌝ }
+    // The first test of the octets that fails: length, type, check.
+    fn message_fault(&self, octets: &[u8]) -> Option<Fault>
+        ensures { λ r. ⌜ r ≡ firstOf (masterTests (kindBits (now (self .entry) .kind)) (now (self .entry) .lengths .od) (now (self .entry) .lengths .«pd_out») (now (octets .entry))) ⌝ }
     {
         let [first, second, data @ ..] = octets else {
-            return Err(Fault::Length(octets.len()));
+            return Some(Fault::Length(octets.len()));
         };
-        let control = Control::from_octet(*first);
-        let outputs = self.lengths.pd_out();
-        if data.len() != outputs + self.sent(control.access()) {
-            return Err(Fault::Length(octets.len()));
+        let access = Control::from_octet(*first).access();
+        if data.len() != self.lengths.pd_out() + self.sent(access) {
+            Some(Fault::Length(octets.len()))
+        } else if second / 64 != self.kind.bits() {
+            Some(Fault::WrongType)
+        } else if second % 64 != checksum(octets, 1) {
+            Some(Fault::Check)
+        } else {
+            None
         }
-        if second / 64 != self.kind.bits() {
-            return Err(Fault::WrongType);
-        }
-        if second % 64 != checksum(octets, 1) {
-            return Err(Fault::Check);
-        }
-        let (outputs, on_request) = data.split_at(outputs);
-        Ok(MasterMessage {
+    }
+
+    // What octets with no fault say.
+    fn message_parts(&self, octets: &[u8]) -> MasterMessage
+        requires { ⌜ firstOf (masterTests (kindBits (now self .kind)) (now self .lengths .od) (now self .lengths .«pd_out») (now octets)) ≡ None ⌝ }
+        ensures { λ r. ⌜ masterView r ≡ masterParts (now (self .entry) .lengths .«pd_out») (now (octets .entry)) ⌝ }
+    {
+        let control = Control::from_octet(octets[0]);
+        let (outputs, on_request) = octets[2..].split_at(self.lengths.pd_out());
+        MasterMessage {
             control,
             outputs: short_row(outputs),
             on_request: short_row(on_request),
-        })
+        }
     }
 }

@@ -1,13 +1,12 @@
-ghost use mathlib.Core.List.{map};
 ghost use mathlib.Core.Path.{_≡_};
 ghost use lib.ListN.{length, getD};
 ghost use Prim.Native.Nat.{_+_, _%_, _<_, _≤_};
-ghost use Rattle.frame.specs.Characters.{characters};
+ghost use Rattle.characters.specs.Characters.{characters};
 ghost use Rattle.frame.specs.Message.{sealed};
-ghost use Rattle.frame.specs.Octets.{octets};
-use crate::characters::Characters;
+ghost use Rattle.octets.specs.Octets.{octets};
 use crate::check::checksum;
-use crate::octets::Octets;
+use characters::Characters;
+use octets::Octets;
 
 /// The octets as characters, with the check added to the octet at `place`.
 pub(super) fn sealed_characters(mut row: Octets<66>, place: usize) -> Characters

@@ -1,0 +1,4 @@
+pub mod Loads
+pub mod OneToOne
+mod Parity
+mod Rows

@@ -1,0 +1,4 @@
+pub mod Character
+pub mod Characters
+pub mod Fault
+pub mod Numbers

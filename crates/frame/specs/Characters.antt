@@ -1,8 +1,0 @@
--- The characters that a record holds.
-use mathlib.Core.List.{List}
-use Prim.Native.Nat.{ℕ}
-use lib.ListN.{take}
-use Rattle.frame.specs.declared.characters.Characters.{Characters}
-
-abbrev pub characters : Characters → List ℕ
-characters r = take (r .len) (r .items)
