@@ -19,4 +19,10 @@ impl Codec {
     {
         Codec { lengths, kind }
     }
+
+    pub fn lengths(&self) -> Lengths
+        ensures { λ r. ⌜ r ≡ now (self .entry) .lengths ⌝ }
+    {
+        self.lengths
+    }
 }

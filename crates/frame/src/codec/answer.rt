@@ -29,8 +29,8 @@ fn status_bits(event: bool, invalid: bool) -> u8
 }
 
 impl Codec {
-    // On-request octets of an answer.
-    fn answered(&self, access: Access) -> usize
+    /// How many on-request octets an answer carries.
+    pub fn answered(&self, access: Access) -> usize
         ensures value { λ r. ⌜ r ≡ answeredOd access (now (self .entry) .lengths .od) ⌝ }
         ensures bound { λ r. ⌜ r ≤ 32 ⌝ }
     {

@@ -21,8 +21,8 @@ use control::channel::Access;
 use octets::Octets;
 
 impl Codec {
-    // On-request octets of a Master message.
-    fn sent(&self, access: Access) -> usize
+    /// How many on-request octets a Master message carries.
+    pub fn sent(&self, access: Access) -> usize
         ensures value { λ r. ⌜ r ≡ sentOd access (now (self .entry) .lengths .od) ⌝ }
         ensures bound { λ r. ⌜ r ≤ 32 ⌝ }
     {

@@ -19,4 +19,6 @@ whole row after from n r e few room a =
     cc
 
 pub returns : need.returns
-returns g c = whole _ _ _ (g .N) _ (c .new-row .ensures) (c .if-from .left) (c .append .ensures .room) (c .append .ensures .after)
+returns g c =
+    let few : length (c .args .from .now) ≤ g .N = omega arith in
+    whole _ _ _ (g .N) _ (c .new-row .ensures) few (c .append .ensures .room) (c .append .ensures .after)

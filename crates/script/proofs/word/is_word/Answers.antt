@@ -1,0 +1,6 @@
+-- Slices are the same where their bytes are.
+use Rattle.std.proofs.shelf.Equals.{matches-decides}
+use Rattle.script.proofs.word.is_word.Needs as need
+
+pub returns : need.returns
+returns c = matches-decides _ _ _ (c .eq .ensures)

@@ -1,0 +1,5 @@
+mod Dots
+mod Glyphs
+mod Hexes
+mod Values
+mod Writing

@@ -1,0 +1,4 @@
+pub mod Digit
+pub mod Number
+pub mod Text
+pub mod Why
