@@ -1,4 +1,5 @@
 pub mod Loads
 pub mod OneToOne
 mod Parity
+pub mod Right
 mod Rows

@@ -1,4 +1,5 @@
 -- The messages of both directions: as they are written, and what a receiver reads.
+-- Throughout, n is how many on-request octets the line has, p inputs and q outputs; kind is the M-sequence type, 0 to 2.
 use mathlib.Core.Bool.{Bool, cond}
 use mathlib.Core.List.{List, [], _∷_, _++_, map}
 use Prim.Native.Nat.{ℕ, _+_, _*_, _/_, _%_}
@@ -77,10 +78,11 @@ masterOctets kind n q m =
 unfoldable pub masterMessage : ℕ → ℕ → ℕ → MasterParts → List ℕ
 masterMessage kind n q m = sealed 1 (masterOctets kind n q m)
 
--- On a read the on-request octets, inputs, and an octet with the event flag in bit 7, a 1 in bit 6 for invalid inputs, and the check.
+-- The event flag in bit 7, and a 1 in bit 6 for invalid inputs.
 abbrev pub statusBits : Bool → Bool → ℕ
 statusBits event invalid = cond event 128 0 + cond invalid 64 0
 
+-- On a read the on-request octets, inputs, and an octet with flag, mark and the check.
 abbrev pub answerOctets : ℕ → ℕ → Access → AnswerParts → List ℕ
 answerOctets n p a r = fitted (answeredOd a n) (r .onRequest) ++ fitted p (r .inputs) ++ statusBits (r .event) (r .invalid) ∷ []
 
@@ -96,13 +98,14 @@ masterCount n q os = 2 + (q + sentOd (accessOf (getD os 0 0)) n)
 abbrev pub answerCount : ℕ → ℕ → Access → ℕ
 answerCount n p a = answeredOd a n + p + 1
 
--- The first of the tests that fails, or none.
+-- The tests of the octets in their order.
 abbrev pub masterTests : ℕ → ℕ → ℕ → List ℕ → List (Option Fault)
 masterTests kind n q os = miscounted (masterCount n q os) os ∷ mistyped kind 1 os ∷ unchecked 1 os ∷ []
 
 abbrev pub answerTests : ℕ → ℕ → Access → List ℕ → List (Option Fault)
 answerTests n p a os = miscounted (answerCount n p a) os ∷ unchecked (answeredOd a n + p) os ∷ []
 
+-- The first fault, or none: the characters' come first.
 unfoldable pub masterFault : ℕ → ℕ → ℕ → List ℕ → Option Fault
 masterFault kind n q cs = firstOf (silent cs ∷ odd cs ∷ masterTests kind n q (map octet cs))
 
@@ -119,6 +122,7 @@ masterParts q os =
       onRequest = drop q (drop 2 os);
     }
 
+-- The bit of a weight: 128 is bit 7, 64 is bit 6.
 abbrev pub bit : ℕ → ℕ → Bool
 bit weight o = eqb (o / weight % 2) 1
 

@@ -82,7 +82,7 @@ impl Codec {
         }
     }
 
-    // The first test of the octets that fails: length, check.
+    // The first fault of the octets: length, check.
     fn answer_fault(&self, access: Access, octets: &[u8]) -> Option<Fault>
         ensures { λ r. ⌜ r ≡ firstOf (answerTests (now (self .entry) .lengths .od) (now (self .entry) .lengths .«pd_in») access (now (octets .entry))) ⌝ }
     {

@@ -70,7 +70,7 @@ impl Codec {
         }
     }
 
-    // The first test of the octets that fails: length, type, check.
+    // The first fault of the octets: length, type, check.
     fn message_fault(&self, octets: &[u8]) -> Option<Fault>
         ensures { λ r. ⌜ r ≡ firstOf (masterTests (kindBits (now (self .entry) .kind)) (now (self .entry) .lengths .od) (now (self .entry) .lengths .«pd_out») (now (octets .entry))) ⌝ }
     {

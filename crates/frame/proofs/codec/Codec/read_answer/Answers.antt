@@ -21,7 +21,7 @@ returns-in-Break-row c =
     let d : Codec = c .args .self .now in
     let cs : List ℕ = characters (c .args .record .now) in
     let p = err-from-errBy (c .from-residual .result) (c .from-residual .ensures .1) in
-    let f = answer-characters (d .lengths .od) (d .lengths .«pd_in») (c .args .access) cs _ (c .in-Break-row .ensures tt) in
+    let f = answer-characters (d .lengths .od) (d .lengths .«pd_in») (c .args .access) cs _ (c .in-Break-row .ensures tt .cases) in
     rw (p .1, p .2) (record { value = ap (λ o. unless o (answerParts (d .lengths .od) (d .lengths .«pd_in») (c .args .access) (map octet cs))) (sym f); written = tt; sturdy = tt })
 
 pub returns-in-Some : need.returns-in-Some
@@ -29,7 +29,7 @@ returns-in-Some c =
     let d : Codec = c .args .self .now in
     let cs : List ℕ = characters (c .args .record .now) in
     let f =
-    answer-octets (d .lengths .od) (d .lengths .«pd_in») (c .args .access) cs _ _ (c .in-Continue-row .ensures tt .0) (c .as-slice-octets .ensures .value ∙ c .in-Continue-row .ensures tt .1) (c .in-Some .ensures tt) in
+    answer-octets (d .lengths .od) (d .lengths .«pd_in») (c .args .access) cs _ _ (c .in-Continue-row .ensures tt .cases .0) (c .as-slice-octets .ensures .value ∙ c .in-Continue-row .ensures tt .cases .1) (c .in-Some .ensures tt) in
     record { value = ap (λ o. unless o (answerParts (d .lengths .od) (d .lengths .«pd_in») (c .args .access) (map octet cs))) (sym f); written = tt; sturdy = tt }
 
 pub returns-in-None : need.returns-in-None
@@ -40,8 +40,8 @@ returns-in-None c =
     let a : Access = c .args .access in
     let cs : List ℕ = characters (c .args .record .now) in
     let nine = record-nine (c .args .record .now) in
-    let os = c .as-slice-octets .ensures .value ∙ c .in-Continue-row .ensures tt .1 in
-    let none : answerFault n p a cs ≡ None = answer-octets n p a cs _ _ (c .in-Continue-row .ensures tt .0) os (c .in-None .ensures tt) in
+    let os = c .as-slice-octets .ensures .value ∙ c .in-Continue-row .ensures tt .cases .1 in
+    let none : answerFault n p a cs ≡ None = answer-octets n p a cs _ _ (c .in-Continue-row .ensures tt .cases .0) os (c .in-None .ensures tt) in
     let parts : answerView (c .answer-parts .result) ≡ answerParts n p a (map octet cs) = c .answer-parts .ensures ∙ ap (answerParts n p a) os in
     record {
       value = ap Ok parts ∙ ap (λ o. unless o (answerParts n p a (map octet cs))) (sym none);

@@ -20,7 +20,7 @@ returns-in-Break-row c =
     let d : Codec = c .args .self .now in
     let cs : List ℕ = characters (c .args .record .now) in
     let p = err-from-errBy (c .from-residual .result) (c .from-residual .ensures .1) in
-    let f = master-characters (kindBits (d .kind)) (d .lengths .od) (d .lengths .«pd_out») cs _ (c .in-Break-row .ensures tt) in
+    let f = master-characters (kindBits (d .kind)) (d .lengths .od) (d .lengths .«pd_out») cs _ (c .in-Break-row .ensures tt .cases) in
     rw (p .1, p .2) (record { value = ap (λ o. unless o (masterParts (d .lengths .«pd_out») (map octet cs))) (sym f); written = tt; sturdy = tt })
 
 pub returns-in-Some : need.returns-in-Some
@@ -28,7 +28,7 @@ returns-in-Some c =
     let d : Codec = c .args .self .now in
     let cs : List ℕ = characters (c .args .record .now) in
     let f =
-    master-octets (kindBits (d .kind)) (d .lengths .od) (d .lengths .«pd_out») cs _ _ (c .in-Continue-row .ensures tt .0) (c .as-slice-octets .ensures .value ∙ c .in-Continue-row .ensures tt .1) (c .in-Some .ensures tt) in
+    master-octets (kindBits (d .kind)) (d .lengths .od) (d .lengths .«pd_out») cs _ _ (c .in-Continue-row .ensures tt .cases .0) (c .as-slice-octets .ensures .value ∙ c .in-Continue-row .ensures tt .cases .1) (c .in-Some .ensures tt) in
     record { value = ap (λ o. unless o (masterParts (d .lengths .«pd_out») (map octet cs))) (sym f); written = tt; sturdy = tt }
 
 pub returns-in-None : need.returns-in-None
@@ -39,8 +39,8 @@ returns-in-None c =
     let q : ℕ = d .lengths .«pd_out» in
     let cs : List ℕ = characters (c .args .record .now) in
     let nine = record-nine (c .args .record .now) in
-    let os = c .as-slice-octets .ensures .value ∙ c .in-Continue-row .ensures tt .1 in
-    let none : masterFault kind n q cs ≡ None = master-octets kind n q cs _ _ (c .in-Continue-row .ensures tt .0) os (c .in-None .ensures tt) in
+    let os = c .as-slice-octets .ensures .value ∙ c .in-Continue-row .ensures tt .cases .1 in
+    let none : masterFault kind n q cs ≡ None = master-octets kind n q cs _ _ (c .in-Continue-row .ensures tt .cases .0) os (c .in-None .ensures tt) in
     let parts : masterView (c .message-parts .result) ≡ masterParts q (map octet cs) = c .message-parts .ensures ∙ ap (masterParts q) os in
     record {
       value = ap Ok parts ∙ ap (λ o. unless o (masterParts q (map octet cs))) (sym none);
