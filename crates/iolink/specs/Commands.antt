@@ -1,7 +1,7 @@
 -- What the commands of a script give, by the rules of the line that is open.
 use mathlib.Core.Path.{_≡_}
 use mathlib.Core.Bool.{Bool, true, false}
-use mathlib.Core.List.{List}
+use mathlib.Core.List.{List, []}
 use Prim.Native.Nat.{ℕ}
 use lib.ListN.{length}
 use Rattle.characters.specs.Character.{loadRefusal}
@@ -11,11 +11,16 @@ use Rattle.control.specs.declared.Control.{Control}
 use Rattle.control.specs.declared.channel.Access.{Access}
 use Rattle.frame.specs.Lengths.{lengthsFit}
 use Rattle.frame.specs.Message.{AnswerParts, MasterParts, answeredOd, sentOd}
-use Rattle.frame.specs.View.{answerView, masterView, receivedBy, takenBy}
+use Rattle.frame.specs.View.{answerView, answeredBy, masterView, receivedBy, sentBy, takenBy}
 use Rattle.frame.specs.declared.codec.Codec.{Codec}
 use Rattle.frame.specs.declared.message.SequenceType.the-variants.{Type2}
 use Rattle.iolink.specs.declared.outcome.Outcome.{Outcome}
 use Rattle.iolink.specs.declared.outcome.Outcome.the-variants.{Opened, Refused, Message, Answer, Faulty, Written}
+use Rattle.script.specs.declared.command.Command.{Command}
+use Rattle.script.specs.declared.command.Command.the-variants.{OpenFrame, Message as ReadMessage, Answer as ReadAnswer, Put, Reply}
+use Rattle.script.specs.Lines.{IsCommand}
+use Rattle.script.specs.Words.{firstWord, said}
+use Rattle.std.specs.Of.Vec.{vec-items}
 use Rattle.std.specs.Options.{Cases as BySome}
 use Rattle.std.specs.declared.option.Option.{Option}
 use Rattle.std.specs.declared.option.Option.the-variants.{Some, None}
@@ -71,3 +76,19 @@ messageOf c outs od = record { access = c .access; channel = c .channel; outputs
 
 abbrev pub answerOf : List ℕ → List ℕ → Bool → Bool → AnswerParts
 answerOf od ins event invalid = record { onRequest = od; inputs = ins; event = event; invalid = invalid }
+
+-- What a command gives, and what is open after it. Every command but `open` wants a line that is open, and leaves it so.
+abbrev pub Obeys : Option Codec → Option Codec → Command → Outcome → Type 0
+Obeys before after (OpenFrame n p q) o = Opens n p q before after o
+Obeys before after (ReadMessage cs) o = (after ≡ before) × BySome before ⊥ (λ d. Receives d (vec-items cs) o)
+Obeys before after (ReadAnswer c cs) o = (after ≡ before) × BySome before ⊥ (λ d. Takes d (c .access) (vec-items cs) o)
+Obeys before after (Put c outs od) o =
+    (after ≡ before) × BySome before ⊥ (λ d. PutCounts d c (vec-items outs) (vec-items od) × Writes (sentBy d (messageOf c (vec-items outs) (vec-items od))) o)
+Obeys before after (Reply c od ins event invalid) o =
+    (after ≡ before)
+    × BySome before ⊥ (λ d. ReplyCounts d (c .access) (vec-items od) (vec-items ins) × Writes (answeredBy d (c .access) (answerOf (vec-items od) (vec-items ins) event invalid)) o)
+
+-- A line of a script: no command, which leaves what is open, or a command that is obeyed.
+abbrev pub Plays : Option Codec → Option Codec → List ℕ → Option Outcome → Type 0
+Plays before after line None = (firstWord (said line) ≡ []) × (after ≡ before)
+Plays before after line (Some o) = (c : Command) × IsCommand (said line) c × Obeys before after c o

@@ -2,11 +2,12 @@
 ghost use mathlib.Core.Path.{_≡_};
 ghost use lib.ListN.{length};
 ghost use Prim.Native.Nat.{_≤_};
-ghost use Rattle.iolink.specs.Commands.{Opens, PutCounts, Receives, ReplyCounts, Takes, Writes, answerOf, messageOf};
+ghost use Rattle.iolink.specs.Commands.{Obeys, Opens, Plays, PutCounts, Receives, ReplyCounts, Takes, Writes, answerOf, messageOf};
 ghost use Rattle.frame.specs.View.{answeredBy, sentBy};
 ghost use Rattle.octets.specs.Octets.{octets};
 ghost use Rattle.std.specs.Results.{Cases};
-ghost use Rattle.std.specs.declared.option.Option.the-variants.{None};
+ghost use Rattle.std.specs.Vec.{made, refused};
+ghost use Rattle.std.specs.declared.option.Option.the-variants.{Some, None};
 use crate::diagnosis::Diagnosis;
 use crate::outcome::Outcome;
 use crate::outcome::Problem;
@@ -40,14 +41,20 @@ impl Session {
     }
 
     /// Runs the command of a line, if it has one.
-    pub fn run_line(&mut self, heap: Global, line: &[u8]) -> Result<Option<Outcome>, Problem> {
+    pub fn run_line(&mut self, heap: Global, line: &[u8]) -> Result<Option<Outcome>, Problem>
+        ensures played { λ r. ⌜ made r (λ o. Plays (now (self .entry) .line) (now (self .exit) .line) (now (line .entry)) o) ⌝ }
+        ensures unmoved { λ r. ⌜ refused r (λ _. now (self .exit) .line ≡ now (self .entry) .line) ⌝ }
+    {
         match parse_line(heap, line)? {
             None => Ok(None),
             Some(command) => Ok(Some(self.run(&command)?)),
         }
     }
 
-    fn run(&mut self, command: &Command) -> Result<Outcome, Problem> {
+    fn run(&mut self, command: &Command) -> Result<Outcome, Problem>
+        ensures obeyed { λ r. ⌜ made r (λ o. Obeys (now (self .entry) .line) (now (self .exit) .line) (now (command .entry)) o) ⌝ }
+        ensures unmoved { λ r. ⌜ refused r (λ _. now (self .exit) .line ≡ now (self .entry) .line) ⌝ }
+    {
         match command {
             Command::OpenFrame { od, pd_in, pd_out } => Ok(self.open(*od, *pd_in, *pd_out)),
             Command::Message { record } => Ok(message(&self.line()?, record.as_slice())),
@@ -87,7 +94,9 @@ impl Session {
         }
     }
 
-    fn line(&self) -> Result<Codec, Problem> {
+    fn line(&self) -> Result<Codec, Problem>
+        ensures { λ r. ⌜ Cases r (λ d. now (self .entry) .line ≡ Some d) (λ _. now (self .entry) .line ≡ None) ⌝ }
+    {
         match self.line {
             Some(line) => Ok(line),
             None => Err(Problem::NoLine),
