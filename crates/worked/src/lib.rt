@@ -8,5 +8,11 @@ pub fn worked_cases() -> usize
     ensures count { λ r. ⌜ r ≡ length cases ⌝ }
     ensures hold { λ _. ⌜ Worked ⌝ }
 {
+    case_count()
+}
+
+fn case_count() -> usize
+    ensures { λ r. ⌜ r ≡ length cases ⌝ }
+{
     5
 }

@@ -6,4 +6,4 @@ use Rattle.worked.proofs.worked_cases.Needs as need
 
 pub returns : need.returns
 unfolding ones onesIn answerMessage masterFault masterMessage
-returns c = record { count = refl; hold = (refl, (refl, (refl, (refl, (refl, tt))))) }
+returns c = record { count = c .case-count .ensures; hold = (refl, (refl, (refl, (refl, (refl, tt))))) }
