@@ -1,4 +1,4 @@
-//! Why characters are no good message. A receiver meets a faulty message with silence.
+//! Why characters are no good message. A Device meets a faulty message with silence.
 ghost use mathlib.Core.Path.{_≡_};
 ghost use Rattle.characters.specs.Numbers.{faultLayer, faultNumber};
 

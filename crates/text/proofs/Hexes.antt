@@ -25,10 +25,6 @@ pub before-none : (n : Option ℕ) → before n None ≡ None
 before-none None = refl
 before-none (Some x) = refl
 
-pub onto-start : (o : Option (List ℕ)) → o ≡ onto [] o
-onto-start None = refl
-onto-start (Some ys) = refl
-
 pub onto-more : (xs : List ℕ) (n : ℕ) (o : Option (List ℕ)) → onto xs (before (Some n) o) ≡ onto (xs ++ n ∷ []) o
 onto-more xs n None = refl
 onto-more xs n (Some ys) = ap (λ (l : List ℕ). Some l) (sym (append-assoc xs (n ∷ []) ys))
