@@ -1,4 +1,6 @@
 //! A record of characters, as the line carries them.
+#![tactic(auto)]
+
 ghost use Rattle.std.specs.Prelude.{◌≡◌, ◌≤◌, true};
 ghost use Rattle.octets.specs.Below.{all_below};
 

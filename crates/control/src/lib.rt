@@ -1,4 +1,6 @@
 //! The control octet as a value with names: each octet is exactly one value.
+#![tactic(auto)]
+
 ghost use Rattle.std.specs.Prelude.{◌≡◌, ◌<◌, true, false, MatchOption};
 ghost use Rattle.control.specs.Control.{access_of, channel_of, control_octet, flow_of, is_channel};
 

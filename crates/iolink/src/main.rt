@@ -1,4 +1,6 @@
 //! Reads a script and prints its transcript, or with `--explain` a view for people.
+#![tactic(auto)]
+
 use crate::explain::Explained;
 use crate::lines::split_line;
 use crate::options::{Options, USAGE};

@@ -1,4 +1,6 @@
 //! ISDUs: the octets that carry an order and its reply, written and read.
+#![tactic(auto)]
+
 mod last;
 pub mod opened;
 pub mod order;

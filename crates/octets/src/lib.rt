@@ -1,4 +1,6 @@
 //! A short row of octets in a fixed memory, with a list's interface.
+#![tactic(auto)]
+
 ghost use Rattle.std.specs.Prelude.{◌≡◌, ◌≤◌, true, length};
 ghost use Rattle.octets.specs.Below.{all_below};
 

@@ -1,4 +1,6 @@
 //! The commands of a script: the words of a line, and what they say together.
+#![tactic(auto)]
+
 pub mod command;
 pub mod mistake;
 mod reader;

@@ -1,4 +1,6 @@
 //! Compares what the frame library writes and reads with octets that are known from elsewhere.
+#![tactic(auto)]
+
 use crate::row::Row;
 use crate::tally::Tally;
 use crate::verdict::Verdict;

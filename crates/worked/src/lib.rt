@@ -1,4 +1,6 @@
 //! The worked cases as theorems.
+#![tactic(auto)]
+
 ghost use Rattle.std.specs.Prelude.{◌≡◌, length};
 ghost use Rattle.worked.specs.Worked.{Worked, cases};
 

@@ -4,5 +4,5 @@ use lib.ListN.{length-replicate}
 use Rattle.octets.proofs.Below.{below-zeros}
 use Rattle.octets.proofs.Octets.new.Goals as goal
 
-pub invariant-of-result : goal.invariant-of-result
-invariant-of-result g c = (length-replicate g.row.N 0, (omega arith, (below-zeros 256 g.row.N (omega arith), tt)))
+pub invariant_of-result : goal.invariant_of-result
+invariant_of-result g c = record { full = length-replicate g.row.N 0; room = omega arith; eight = below-zeros 256 g.row.N (omega arith) }

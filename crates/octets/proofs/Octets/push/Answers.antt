@@ -4,11 +4,15 @@ use Rattle.std.proofs.lemmas.List.{length_push, take_more_set}
 use Rattle.octets.proofs.Below.{below_set}
 use Rattle.octets.proofs.Octets.push.Goals as goal
 
-pub invariant-of-self : goal.invariant-of-self
-invariant-of-self g c =
+pub invariant_of-self : goal.invariant_of-self
+invariant_of-self g c =
     let items : List ℕ = c.args.self.now.items in
     let at : ℕ = c.args.self.now.len in
-    (simp length-set c.args.self.now.full, (omega arith, (below_set 256 items at c.args.octet (omega arith) c.args.self.now.eight, tt)))
+    record {
+      full = simp length-set c.args.self.now.full;
+      room = omega arith;
+      eight = below_set 256 items at c.args.octet (omega arith) c.args.self.now.eight;
+    }
 
 pub returns : goal.returns
 returns g c =
