@@ -68,7 +68,7 @@ impl fmt::Display for Chars<'_> {
 
 // Writes the three digits of a character.
 fn write_character<W: fmt::Write>(f: &mut fmt::Formatter<W>, character: u16) -> fmt::Result
-    ensures { WritesOnOk write_str_gives f.old result (three_digits character) f.new }
+    ensures { WritesOnOk W.write_str_gives f.old result (three_digits character) f.new }
 {
     write_digit(f, (character / 256 % 16) as u8)?;
     write_digit(f, (character / 16 % 16) as u8)?;
@@ -77,7 +77,7 @@ fn write_character<W: fmt::Write>(f: &mut fmt::Formatter<W>, character: u16) -> 
 
 // Writes `.` and the three digits of a character.
 fn write_after<W: fmt::Write>(f: &mut fmt::Formatter<W>, character: u16) -> fmt::Result
-    ensures { WritesOnOk write_str_gives f.old result (dot_three character) f.new }
+    ensures { WritesOnOk W.write_str_gives f.old result (dot_three character) f.new }
 {
     f.write_char('.')?;
     write_character(f, character)

@@ -42,7 +42,7 @@ pub(crate) fn three_digits(high: u8, middle: u8, low: u8) -> Option<u16>
 /// Writes the digit of a value, in upper case.
 pub(crate) fn write_digit<W: fmt::Write>(f: &mut fmt::Formatter<W>, value: u8) -> fmt::Result
     requires { value < 16 }
-    ensures { WritesOnOk write_str_gives f.old result (glyph value ∷ []) f.new }
+    ensures { WritesOnOk W.write_str_gives f.old result (glyph value ∷ []) f.new }
 {
     f.write_char(digit_glyph(value))
 }

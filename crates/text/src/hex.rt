@@ -57,7 +57,7 @@ impl fmt::Display for Hex<'_> {
 
 // Writes the two digits of an octet.
 fn write_octet<W: fmt::Write>(f: &mut fmt::Formatter<W>, octet: u8) -> fmt::Result
-    ensures { WritesOnOk write_str_gives f.old result (two_digits octet) f.new }
+    ensures { WritesOnOk W.write_str_gives f.old result (two_digits octet) f.new }
 {
     write_digit(f, octet / 16)?;
     write_digit(f, octet % 16)

@@ -6,4 +6,4 @@ use Rattle.worked.proofs.worked_cases.Goals as goal
 
 pub returns : goal.returns
 unfolding ones ones_in answer_message master_fault master_message
-returns c = record { count = c.case-count.ensures; hold = (refl, (refl, (refl, (refl, (refl, tt))))) }
+returns c = record { count = c.case_count.ensures; hold = (refl, (refl, (refl, (refl, (refl, tt))))) }

@@ -4,11 +4,11 @@ use Rattle.std.proofs.lemmas.List.{take_more_set}
 use Rattle.octets.proofs.Below.{below_set}
 use Rattle.characters.proofs.Characters.push.Goals as goal
 
-pub invariant-of-self : goal.invariant-of-self
-invariant-of-self c =
+pub invariant_of-self : goal.invariant_of-self
+invariant_of-self c =
     let items : List ℕ = c.args.self.now.items in
     let at : ℕ = c.args.self.now.len in
-    (omega (arith, length-take at items), (below_set 512 items at c.args.number c.requires.nine c.args.self.now.nine, tt))
+    record { room = omega (arith, length-take at items); nine = below_set 512 items at c.args.number c.requires.nine c.args.self.now.nine }
 
 pub returns : goal.returns
 returns c =

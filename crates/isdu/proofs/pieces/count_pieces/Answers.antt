@@ -7,6 +7,6 @@ use Rattle.isdu.proofs.pieces.count_pieces.Goals as goal
 pub returns : goal.returns
 returns c =
     record {
-      value = c.rounded-up.ensures;
-      pieced = λ some. subst (λ (k : ℕ). Pieced c.args.size k c.args.octets.now) (sym c.rounded-up.ensures) (pieced c.args.size c.args.octets.now some);
+      value = c.rounded_up.ensures;
+      pieced = λ some. subst (λ (k : ℕ). Pieced c.args.size k c.args.octets.now) (sym c.rounded_up.ensures) (pieced c.args.size c.args.octets.now some);
     }

@@ -4,7 +4,7 @@ use Rattle.std.proofs.lemmas.Bool.Decides.{nat_tests}
 use Rattle.isdu.proofs.Forms.{order-by}
 use Rattle.isdu.proofs.request.order_in.Goals as goal
 
-pub returns-in-default : goal.returns-in-default
-returns-in-default c =
+pub returns-in_default : goal.returns-in_default
+returns-in_default c =
     let e = order-by c.args.service c.args.length c.args.contents.now c.requires in
     grind (arith, nat_tests)

@@ -5,5 +5,5 @@ use Rattle.isdu.proofs.request.read_request.Goals as goal
 
 pub returns : goal.returns
 returns c =
-    let e = read-value c.args.octets.now _ c.order-of.ensures in
-    record { value = e; asked = read_asked _ (λ i. omega (arith, c.type-inv.octets i)) _ e; unasked = read-unasked _ _ e }
+    let e = read-value c.args.octets.now _ c.order_of.ensures in
+    record { value = e; asked = read_asked _ (λ i. omega (arith, c.type_inv.octets i)) _ e; unasked = read-unasked _ _ e }

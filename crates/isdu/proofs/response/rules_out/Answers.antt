@@ -6,6 +6,6 @@ use Rattle.isdu.proofs.response.rules_out.Goals as goal
 pub returns : goal.returns
 returns c =
     record {
-      value = c.has-no-head.ensures;
-      just = ruled-just c.args.octets.now c.args.service c.has-no-head.result (λ i. omega (arith, c.type-inv.octets i)) c.has-no-head.ensures;
+      value = c.has_no_head.ensures;
+      just = ruled-just c.args.octets.now c.args.service c.has_no_head.result (λ i. omega (arith, c.type_inv.octets i)) c.has_no_head.ensures;
     }

@@ -6,5 +6,5 @@ use Rattle.isdu.proofs.response.write_reply.Goals as goal
 pub returns : goal.returns
 returns c =
     let r : Reply = reply_view c.args.reply.now in
-    let e = written-value r c.reply-row.result c.reply-row.ensures in
-    record { value = e; back = written_back r c.reply-row.result e }
+    let e = written-value r c.reply_row.result c.reply_row.ensures in
+    record { value = e; back = written_back r c.reply_row.result e }

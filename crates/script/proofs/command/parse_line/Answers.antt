@@ -7,15 +7,15 @@ use Rattle.script.proofs.command.parse_line.Goals as goal
 
 pub returns-then-name-eq0 : goal.returns-then-name-eq0
 returns-then-name-eq0 c =
-    sym (c.next-word-name.ensures.word ∙ ap first_word c.without-comment.ensures) ∙ nil_from_length _ c.if-name-eq0.true
+    sym (c.next_word-name.ensures.word ∙ ap first_word c.without_comment.ensures) ∙ nil_from_length _ c.if-name-eq0.true
 
 pub returns : goal.returns
 returns c =
-    let command = c.in-ok-command.command in
-    let said = c.without-comment.ensures in
-    let rest = c.next-word-name.ensures.rest ∙ ap after_word said in
+    let command = c.in_ok-command.command in
+    let said = c.without_comment.ensures in
+    let rest = c.next_word-name.ensures.rest ∙ ap after_word said in
     record {
-      named = sym (c.next-word-name.ensures.word ∙ ap first_word said) ∙ c.in-ok-command.ensures.named;
-      says = rw rest at c.in-ok-command.ensures.says;
-      ends = sym (ap first_word (c.in-ok-command.ensures.rest ∙ ap (after_words (count command)) rest)) ∙ c.in-ok-end.ensures;
+      named = sym (c.next_word-name.ensures.word ∙ ap first_word said) ∙ c.in_ok-command.ensures.named;
+      says = rw rest at c.in_ok-command.ensures.says;
+      ends = sym (ap first_word (c.in_ok-command.ensures.rest ∙ ap (after_words (count command)) rest)) ∙ c.in_ok-end.ensures;
     }

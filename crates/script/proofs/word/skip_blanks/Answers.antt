@@ -5,13 +5,13 @@ use Rattle.script.specs.Words.{is_letter}
 use Rattle.std.proofs.lemmas.List.{drop_all, take_rest}
 use Rattle.script.proofs.word.skip_blanks.Goals as goal
 
-pub returns-then-not-is-blank : goal.returns-then-not-is-blank
-returns-then-not-is-blank c =
+pub returns-then-not-is_blank : goal.returns-then-not-is_blank
+returns-then-not-is_blank c =
     take_rest c.args.text.now c.loop-i.i
-    ∙ sym (onward-stop is_letter c.args.text.now c.loop-i.i c.loop-i-test.true (ap not (sym c.if-not-is-blank.ensures)) c.loop-i.invariant)
+    ∙ sym (onward-stop is_letter c.args.text.now c.loop-i.i c.loop-i-test.true (ap not (sym c.if-not-is_blank.ensures)) c.loop-i.invariant)
 
 pub loop-i-preserved : goal.loop-i-preserved
-loop-i-preserved c = onward-again is_letter c.args.text.now c.loop-i.i c.loop-i-test.true (ap not (sym c.if-not-is-blank.ensures)) c.loop-i.invariant
+loop-i-preserved c = onward-again is_letter c.args.text.now c.loop-i.i c.loop-i-test.true (ap not (sym c.if-not-is_blank.ensures)) c.loop-i.invariant
 
 pub returns : goal.returns
 returns c =

@@ -5,18 +5,18 @@ use Rattle.script.specs.Words.{is_blank}
 use Rattle.std.proofs.lemmas.List.{drop_all}
 use Rattle.script.proofs.word.word_len.Goals as goal
 
-pub returns-then-is-blank : goal.returns-then-is-blank
-returns-then-is-blank c =
+pub returns-then-is_blank : goal.returns-then-is_blank
+returns-then-is_blank c =
     record {
       within = omega arith;
-      word = sym (up_to-stop is_blank c.args.text.now c.loop-i.i c.loop-i-test.true (sym c.if-is-blank.ensures) c.loop-i.invariant.0);
-      rest = sym (onward-stop is_blank c.args.text.now c.loop-i.i c.loop-i-test.true (sym c.if-is-blank.ensures) c.loop-i.invariant.1);
+      word = sym (up_to-stop is_blank c.args.text.now c.loop-i.i c.loop-i-test.true (sym c.if-is_blank.ensures) c.loop-i.invariant.0);
+      rest = sym (onward-stop is_blank c.args.text.now c.loop-i.i c.loop-i-test.true (sym c.if-is_blank.ensures) c.loop-i.invariant.1);
     }
 
 pub loop-i-preserved : goal.loop-i-preserved
 loop-i-preserved c = (
-  up_to-again is_blank c.args.text.now c.loop-i.i c.loop-i-test.true (sym c.if-is-blank.ensures) c.loop-i.invariant.0,
-  onward-again is_blank c.args.text.now c.loop-i.i c.loop-i-test.true (sym c.if-is-blank.ensures) c.loop-i.invariant.1,
+  up_to-again is_blank c.args.text.now c.loop-i.i c.loop-i-test.true (sym c.if-is_blank.ensures) c.loop-i.invariant.0,
+  onward-again is_blank c.args.text.now c.loop-i.i c.loop-i-test.true (sym c.if-is_blank.ensures) c.loop-i.invariant.1,
 )
 
 pub returns : goal.returns

@@ -8,8 +8,8 @@ use Rattle.text.proofs.chars.chars_text.Goals as goal
 pub returns : goal.returns
 returns c =
     record {
-      text = c.to-string.ensures.ok;
-      back = λ small. IfOk-weaker c.to-string.result (λ s. string_bytes s ≡ chars_text c.args.characters.now) _
+      text = c.to_string.ensures.ok;
+      back = λ small. IfOk-weaker c.to_string.result (λ s. string_bytes s ≡ chars_text c.args.characters.now) _
           (λ s e. ap read_chars e ∙ chars-back c.args.characters.now small)
-          c.to-string.ensures.ok;
+          c.to_string.ensures.ok;
     }

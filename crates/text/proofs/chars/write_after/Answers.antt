@@ -5,5 +5,5 @@ use Rattle.text.proofs.chars.write_after.Goals as goal
 
 pub returns : goal.returns
 returns g c =
-    prints-both g.W.Write.write_str_gives _ _ _ _ _ _ _ (ap is_ok c.in-ok-write-char.was)
-    (prints-ascii g.W.Write.write_str_gives _ _ _ 46 46 (omega arith) refl c.write-char.ensures.writes) c.write-character.ensures
+    prints-both g.W.Write.write_str_gives _ _ _ _ _ _ _ (ap is_ok c.in_ok-write_char.was)
+    (prints-ascii g.W.Write.write_str_gives _ _ _ 46 46 (omega arith) refl c.write_char.ensures.writes) c.write_character.ensures

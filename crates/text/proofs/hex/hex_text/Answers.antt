@@ -8,8 +8,8 @@ use Rattle.text.proofs.hex.hex_text.Goals as goal
 pub returns : goal.returns
 returns c =
     record {
-      text = c.to-string.ensures.ok;
-      back = IfOk-weaker c.to-string.result (λ s. string_bytes s ≡ hex_text c.args.octets.now) _
-          (λ s e. ap read_hex e ∙ hex-back c.args.octets.now (λ i. omega (arith, c.type-inv.octets i)))
-          c.to-string.ensures.ok;
+      text = c.to_string.ensures.ok;
+      back = IfOk-weaker c.to_string.result (λ s. string_bytes s ≡ hex_text c.args.octets.now) _
+          (λ s e. ap read_hex e ∙ hex-back c.args.octets.now (λ i. omega (arith, c.type_inv.octets i)))
+          c.to_string.ensures.ok;
     }

@@ -4,10 +4,10 @@ use Rattle.text.proofs.Values.{some-value, value-again, value-all, value-ge, val
 use Rattle.text.specs.Number.{value_after}
 use Rattle.text.proofs.number.digits_value.Goals as goal
 
-pub returns-in-default : goal.returns-in-default
-returns-in-default c =
+pub returns-in_default : goal.returns-in_default
+returns-in_default c =
     some-value c.args.radix c.args.digits.now c.if-digits-eq0.false
-    ∙ value_none c.args.radix c.loop-b.number c.args.digits.now c.loop-b.b-index c.loop-b-test.true c.in-default.ensures c.loop-b.invariant.0
+    ∙ value_none c.args.radix c.loop-b.number c.args.digits.now c.loop-b.b-index c.loop-b-test.true c.in_default.ensures c.loop-b.invariant.0
 
 pub returns-then-next-from : goal.returns-then-next-from
 returns-then-next-from c n e =

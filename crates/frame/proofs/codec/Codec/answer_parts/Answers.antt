@@ -8,8 +8,8 @@ pub returns : goal.returns
 returns c =
     let os : List ℕ = c.args.octets.now in
     let k : ℕ = answered_od c.args.access c.args.self.now.lengths.od in
-    let place = c.status-place-place.ensures.value in
+    let place = c.status_place-place.ensures.value in
     let a = c.answered-answered.ensures.value in
     let front : c.answered-answered.result - 0 ≡ k = omega arith in
-    let middle : c.status-place-place.result - c.answered-answered.result ≡ c.args.self.now.lengths.pd_in = omega arith in
-    same_parts _ _ _ _ _ _ _ _ (c.short-row.ensures ∙ ap (λ (x : ℕ). take x os) front) (c.short-row-2.ensures ∙ ap₂ (λ (x y : ℕ). take x (drop y os)) middle a) (ap (λ (x : ℕ). bit 128 (get_or os x 0)) place) (ap (λ (x : ℕ). bit 64 (get_or os x 0)) place)
+    let middle : c.status_place-place.result - c.answered-answered.result ≡ c.args.self.now.lengths.pd_in = omega arith in
+    same_parts _ _ _ _ _ _ _ _ (c.short_row.ensures ∙ ap (λ (x : ℕ). take x os) front) (c.short_row-2.ensures ∙ ap₂ (λ (x y : ℕ). take x (drop y os)) middle a) (ap (λ (x : ℕ). bit 128 (get_or os x 0)) place) (ap (λ (x : ℕ). bit 64 (get_or os x 0)) place)

@@ -7,4 +7,4 @@ use Rattle.frame.proofs.codec.Codec.message_parts.Goals as goal
 pub returns : goal.returns
 returns c =
     let rest = take_rest c.args.octets.now 2 in
-    same_parts _ _ _ _ _ _ _ _ c.from-octet-control.ensures.access c.from-octet-control.ensures.channel (c.short-row.ensures ∙ c.split-at.ensures.front ∙ ap₂ take c.pd-out.ensures.value rest) (c.short-row-2.ensures ∙ c.split-at.ensures.back ∙ ap₂ drop c.pd-out.ensures.value rest)
+    same_parts _ _ _ _ _ _ _ _ c.from_octet-control.ensures.access c.from_octet-control.ensures.channel (c.short_row.ensures ∙ c.split_at.ensures.front ∙ ap₂ take c.pd_out.ensures.value rest) (c.short_row-2.ensures ∙ c.split_at.ensures.back ∙ ap₂ drop c.pd_out.ensures.value rest)

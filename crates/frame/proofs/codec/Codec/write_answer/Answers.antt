@@ -9,18 +9,18 @@ use Rattle.octets.proofs.Below.{row-octets}
 use Rattle.frame.proofs.AnswerBack.{answer_back, answer-clear}
 use Rattle.frame.proofs.codec.Codec.write_answer.Goals as goal
 
-pub sealed-characters-requires : goal.sealed-characters-requires
-sealed-characters-requires c =
+pub sealed_characters-requires : goal.sealed_characters-requires
+sealed_characters-requires c =
     let d : Codec = c.args.self.now in
-    let w = answer-clear d.lengths.od d.lengths.pd_in c.args.access (answer_view c.args.answer.now) _ _ c.answer-row.ensures c.status-place.ensures.value in
+    let w = answer-clear d.lengths.od d.lengths.pd_in c.args.access (answer_view c.args.answer.now) _ _ c.answer_row.ensures c.status_place.ensures.value in
     record { within = w.0; clear = w.1 }
 
-written : (c : goal.After-sealed-characters)
-    → characters c.sealed-characters.result ≡ answered_by c.args.self.now c.args.access (answer_view c.args.answer.now)
+written : (c : goal.After-sealed_characters)
+    → characters c.sealed_characters.result ≡ answered_by c.args.self.now c.args.access (answer_view c.args.answer.now)
 unfolding answer_message
 written c =
-    c.sealed-characters.ensures
-    ∙ ap₂ (λ (k : ℕ) (os : List ℕ). sealed k os) c.status-place.ensures.value c.answer-row.ensures
+    c.sealed_characters.ensures
+    ∙ ap₂ (λ (k : ℕ) (os : List ℕ). sealed k os) c.status_place.ensures.value c.answer_row.ensures
 
 pub returns : goal.returns
 returns c =

@@ -19,10 +19,10 @@ kind-small Type2 = omega arith
 octetful : (m : MasterMessage) → Octetful (master_view m)
 octetful m = record { exists = m.control.exists; outputs = row-octets m.outputs; on_request = row-octets m.on_request }
 
-written : (c : goal.After-sealed-characters)
-    → characters c.sealed-characters.result ≡ sent_by c.args.self.now (master_view c.args.message.now)
+written : (c : goal.After-sealed_characters)
+    → characters c.sealed_characters.result ≡ sent_by c.args.self.now (master_view c.args.message.now)
 unfolding master_message
-written c = c.sealed-characters.ensures ∙ ap (sealed 1) c.message-row.ensures
+written c = c.sealed_characters.ensures ∙ ap (sealed 1) c.message_row.ensures
 
 pub returns : goal.returns
 returns c =

@@ -11,7 +11,7 @@ loop-octet-init g c plain = record { wrote = writes_in_calls_nil g.W.Write.write
 
 pub loop-octet-preserved : goal.loop-octet-preserved
 loop-octet-preserved g c =
-    put_next g.W.Write.write_str_gives two_digits [] c.args.self.now.0.now c.loop-octet.octet-index _ _ _ _ c.loop-octet-test.true c.loop-octet.invariant c.write-octet.ensures (ap is_ok c.in-ok-write-octet.was)
+    put_next g.W.Write.write_str_gives two_digits [] c.args.self.now.0.now c.loop-octet.octet-index _ _ _ _ c.loop-octet-test.true c.loop-octet.invariant c.write_octet.ensures (ap is_ok c.in_ok-write_octet.was)
 
 pub returns-clause-writes : goal.returns-clause-writes
 returns-clause-writes g c plain e =
