@@ -1,5 +1,5 @@
 -- Octets cut into pieces of n, and joined again.
-use Rattle.std.proofs.Common.{◌≡◌, ℕ, zero, suc, ◌+◌, ◌-◌, ◌*◌, ◌/◌, ◌%◌, ◌<◌, ◌≤◌, cond, eqb, ◌⊎◌, List, ◌++◌, length, drop, sym, ap, ◌∙◌, inl, inr, add-zero, mul-le-mul_right, mod-lt, suc-mul, add-mul, one-mul, div-add-mod', zero-mul, arith}
+use Rattle.std.proofs.Common.{◌≡◌, ℕ, zero, suc, ◌+◌, ◌*◌, ◌/◌, ◌%◌, ◌<◌, ◌≤◌, cond, eqb, ◌⊎◌, List, ◌++◌, length, drop, sym, ap, ◌∙◌, inl, inr, add-zero, mul-le-mul_right, mod-lt, suc-mul, add-mul, one-mul, div-add-mod', zero-mul, arith}
 use Rattle.octets.specs.Octets.{fitted}
 use Rattle.octets.proofs.Fitted.{fitted-add, fitted-cut, fitted-filled}
 use Rattle.std.proofs.lemmas.List.{length-drop}
