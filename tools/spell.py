@@ -1,6 +1,9 @@
 #!/usr/bin/env python3
 """Brings the names of this repository's own definitions from camelCase to snake_case.
 
+The kit's script lets a file say `All` for the library's `AllByRecursion`, a name that stands for
+something else there; each such file says `AllByRecursion` after this script.
+
     python3 tools/spell.py [--list] [FOLDER]
 
 A name is one that a file of specs/ or proofs/ declares: a definition, a lemma, a field of a record
@@ -25,6 +28,9 @@ BOUND = re.compile(r"[({]([^(){}:\n]+) : ")
 # A lemma whose name a definition takes.
 MOVED = {"first_pieces": "first_pieces-fitted"}
 CAMEL = re.compile(r"(?<=[a-z0-9])[A-Z]")
+
+
+ALIAS = "AllByRecursion as All"
 
 
 def snake(name):
@@ -52,6 +58,11 @@ def declared(top):
             if match and ": goal." not in line and is_camel(match.group(1)):
                 names.add(match.group(1))
     return names
+
+
+def renamed(text, new):
+    """The names that change in a text: those of `new`, and the library's, where it goes by another."""
+    return {**new, "All": "AllByRecursion"} if ALIAS in text else new
 
 
 def respelled(text, new):
@@ -109,11 +120,11 @@ def main():
             print(name, spelling)
         return
     for path, text in texts.items():
-        turned = respelled(text, new)
+        turned = respelled(text.replace(ALIAS, "AllByRecursion"), renamed(text, new))
         if turned != text:
             open(path, "w", encoding="utf-8").write(turned)
     for path, text in sources.items():
-        turned = turned_source(text, new)
+        turned = turned_source(text.replace(ALIAS, "AllByRecursion"), renamed(text, new))
         if turned != text:
             open(path, "w", encoding="utf-8").write(turned)
     print(f"{len(new)} names respelled")

@@ -1,6 +1,6 @@
 -- When a load is refused, and what a record holds.
 use Rattle.std.proofs.Common.{◌≡◌, ℕ, ◌<◌, ◌≤◌, false, List, length, get_or, Some, None, inl, inr, arith, le-ltb}
-use Rattle.std.specs.List.{AllByRecursion as All}
+use Rattle.std.specs.List.{AllByRecursion}
 use Rattle.std.proofs.ByRecursion.{All-get_or}
 use Rattle.std.proofs.lemmas.Bool.{cases_Bool}
 use Rattle.octets.specs.Below.{all_below}
@@ -10,7 +10,7 @@ use Rattle.characters.specs.Characters.{characters}
 use Rattle.characters.specs.declared.Characters.{Characters}
 
 -- a load that is granted
-pub load-granted : (cs : List ℕ) → length cs ≤ 66 → All (λ c. c < 512) cs → load_refusal cs ≡ None
+pub load-granted : (cs : List ℕ) → length cs ≤ 66 → AllByRecursion (λ c. c < 512) cs → load_refusal cs ≡ None
 load-granted cs few h = rw (le-ltb 66 (length cs) few, (below-decides 512 cs).1 h)
 
 -- a load of few numbers, one of them above 511
@@ -24,5 +24,5 @@ load-large cs i few l h =
     rw (le-ltb 66 (length cs) few, large)
 
 -- a record holds characters of nine bits
-pub record-nine : (r : Characters) → All (λ c. c < 512) (characters r)
+pub record-nine : (r : Characters) → AllByRecursion (λ c. c < 512) (characters r)
 record-nine r = (below-decides 512 (characters r)).0 (below-take 512 r.len r.items r.nine)

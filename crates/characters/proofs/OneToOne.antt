@@ -1,7 +1,7 @@
 -- Octets and right characters are one to one.
 use Rattle.std.proofs.Common.{◌≡◌, ℕ, zero, suc, ◌+◌, ◌*◌, ◌/◌, ◌%◌, ◌^◌, ◌<◌, List, [], ◌∷◌, map, refl, ap, arith}
 use lib.Count.{ones, ones_in, ones_cat}
-use Rattle.std.specs.List.{AllByRecursion as All}
+use Rattle.std.specs.List.{AllByRecursion}
 use Rattle.characters.specs.Character.{Char, character, octet}
 
 bit-ones : (b : ℕ) → b < 2 → ones b ≡ b
@@ -16,11 +16,11 @@ char o h =
     let k : ones ((ones o % 2) * 2 ^ 8 + o) ≡ ones (character o) = ap ones (omega arith) in
     (omega arith, omega (arith, ones_cat 8 (ones o % 2) o h, bit-ones (ones o % 2) b))
 
-pub chars-coded : (os : List ℕ) → All (λ o. o < 256) os → All Char (map character os)
+pub chars-coded : (os : List ℕ) → AllByRecursion (λ o. o < 256) os → AllByRecursion Char (map character os)
 chars-coded [] h = tt
 chars-coded (o ∷ os) h = (char o h.0, chars-coded os h.1)
 
-pub octets-coded : (os : List ℕ) → All (λ o. o < 256) os → map octet (map character os) ≡ os
+pub octets-coded : (os : List ℕ) → AllByRecursion (λ o. o < 256) os → map octet (map character os) ≡ os
 octets-coded [] h = refl
 octets-coded (o ∷ os) h =
     let e : octet (character o) ≡ o = omega (arith, h.0) in
@@ -33,10 +33,10 @@ coded c h =
     let e : ones ((c / 256) * 2 ^ 8 + c % 256) ≡ ones c = ap ones (omega arith) in
     omega (arith, h.1, ones_cat 8 (c / 256) (c % 256) (omega arith), bit-ones (c / 256) b)
 
-pub coded-octets : (cs : List ℕ) → All Char cs → map character (map octet cs) ≡ cs
+pub coded-octets : (cs : List ℕ) → AllByRecursion Char cs → map character (map octet cs) ≡ cs
 coded-octets [] h = refl
 coded-octets (c ∷ cs) h = let e = coded c h.0 in let es = coded-octets cs h.1 in cc
 
-pub octets-below : (cs : List ℕ) → All (λ o. o < 256) (map octet cs)
+pub octets-below : (cs : List ℕ) → AllByRecursion (λ o. o < 256) (map octet cs)
 octets-below [] = tt
 octets-below (c ∷ cs) = (omega arith, octets-below cs)

@@ -1,7 +1,7 @@
 -- What it takes for characters to have no fault.
 use Rattle.std.proofs.Common.{◌≡◌, ℕ, suc, ◌%◌, ◌<◌, eqb, List, [], ◌∷◌, length, Some, None, Option, refl, inl, inr, arith, eq-eqb, eqb-true}
 use lib.Count.{ones}
-use Rattle.std.specs.List.{AllByRecursion as All}
+use Rattle.std.specs.List.{AllByRecursion}
 use Rattle.std.specs.Option.{option_map}
 use Rattle.std.proofs.ByRecursion.{All-weaker}
 use Rattle.std.proofs.lemmas.Bool.{cases_Bool}
@@ -20,7 +20,7 @@ none_first None fs e h = h
 none_first (Some f) fs e h = grind arith
 
 -- parity
-pub even-all : (i : ℕ) (cs : List ℕ) → odd_from i cs ≡ None → All (λ c. ones c % 2 ≡ 0) cs
+pub even-all : (i : ℕ) (cs : List ℕ) → odd_from i cs ≡ None → AllByRecursion (λ c. ones c % 2 ≡ 0) cs
 even-all i [] h = tt
 even-all i (c ∷ cs) h =
     elim (cases_Bool (eqb (ones c % 2) 0)) [
@@ -28,16 +28,16 @@ even-all i (c ∷ cs) h =
       | inr e ↦ (let k : Some i ≡ None = rw e at h in grind arith)
     ]
 
-pub all-even : (i : ℕ) (cs : List ℕ) → All (λ c. ones c % 2 ≡ 0) cs → odd_from i cs ≡ None
+pub all-even : (i : ℕ) (cs : List ℕ) → AllByRecursion (λ c. ones c % 2 ≡ 0) cs → odd_from i cs ≡ None
 all-even i [] h = refl
 all-even i (c ∷ cs) h = rw (eq-eqb (ones c % 2) 0 h.0) (all-even (suc i) cs h.1)
 
 -- nine bits and an even count of ones: right characters
-pub right : (cs : List ℕ) → All (λ c. c < 512) cs → All (λ c. ones c % 2 ≡ 0) cs → All Char cs
+pub right : (cs : List ℕ) → AllByRecursion (λ c. c < 512) cs → AllByRecursion (λ c. ones c % 2 ≡ 0) cs → AllByRecursion Char cs
 right [] h k = tt
 right (c ∷ cs) h k = ((h.0, k.0), right cs h.1 k.1)
 
-pub evens : (cs : List ℕ) → All Char cs → All (λ c. ones c % 2 ≡ 0) cs
+pub evens : (cs : List ℕ) → AllByRecursion Char cs → AllByRecursion (λ c. ones c % 2 ≡ 0) cs
 evens cs h = All-weaker Char (λ c. ones c % 2 ≡ 0) (λ c k. k.1) cs h
 
 pub some_of : (cs : List ℕ) → silent cs ≡ None → 0 < length cs
@@ -59,5 +59,5 @@ parity cs h = go (odd_from 0 cs) h
 pub no-odd : (cs : List ℕ) → odd_from 0 cs ≡ None → odd cs ≡ None
 no-odd cs e = rw e
 
-pub all_right : (cs : List ℕ) → All (λ c. c < 512) cs → first_of (silent cs ∷ odd cs ∷ []) ≡ None → All Char cs
+pub all_right : (cs : List ℕ) → AllByRecursion (λ c. c < 512) cs → first_of (silent cs ∷ odd cs ∷ []) ≡ None → AllByRecursion Char cs
 all_right cs nine h = right cs nine (even-all 0 cs (parity cs (first-none (odd cs) [] (first-none (silent cs) (odd cs ∷ []) h).1).0))

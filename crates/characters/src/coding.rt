@@ -3,7 +3,7 @@ ghost use Rattle.characters.specs.Character.{Char, character, octet};
 ghost use Rattle.characters.specs.Characters.{characters};
 ghost use Rattle.characters.specs.Fault.{first_of, odd, silent};
 ghost use Rattle.octets.specs.Octets.{octets};
-ghost use Rattle.std.specs.List.{AllByRecursion as All};
+ghost use Rattle.std.specs.List.{AllByRecursion};
 
 use super::{Characters, MOST};
 use crate::fault::Fault;
@@ -22,7 +22,7 @@ impl Characters {
     pub fn from_octets(row: &Octets<66>) -> Characters
         ensures value { characters result ≡ map character (octets row.now) }
         ensures back { map octet (characters result) ≡ octets row.now }
-        ensures right { All Char (characters result) }
+        ensures right { AllByRecursion Char (characters result) }
     {
         let mut coded = Characters::new();
         let values = row.as_slice();

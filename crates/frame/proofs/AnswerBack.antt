@@ -1,7 +1,7 @@
 -- Answers: what is written is read back, what is read is what its parts write, and no small damage passes.
 use Rattle.std.proofs.Common.{◌≡◌, ℕ, suc, ◌+◌, ◌*◌, ◌/◌, ◌%◌, ◌<◌, ◌≤◌, Bool, true, false, List, [], ◌∷◌, ◌++◌, map, length, get_or, take, drop, set, None, Ok, sym, refl, ap, ◌∙◌, subst, arith, length-append, length-drop, length-take, take-add}
 use lib.ListN.{length-map}
-use Rattle.std.specs.List.{AllByRecursion as All}
+use Rattle.std.specs.List.{AllByRecursion}
 use Rattle.std.proofs.ByRecursion.{All-append, All-get_or, All-take}
 use Rattle.std.proofs.lemmas.List.{append_assoc, drop_all, drop_at, get_or_at, set_at, set_split, take_at}
 use Rattle.std.proofs.lemmas.Bool.Decides.{nat_tests}
@@ -19,8 +19,8 @@ use Rattle.frame.proofs.Sealed.{check-small, good-sealed, octets-sealed, opened,
 
 -- Octets.
 pub record Octetful (r : AnswerParts) : Type 0 where
-  pub on_request : All (λ o. o < 256) r.on_request
-  pub inputs : All (λ o. o < 256) r.inputs
+  pub on_request : AllByRecursion (λ o. o < 256) r.on_request
+  pub inputs : AllByRecursion (λ o. o < 256) r.inputs
 
 -- ---- the octet with flag and mark
 
@@ -96,7 +96,7 @@ answer_back n p a r w =
     let li : length ins ≡ p = length-fitted p r.inputs in
     let sum : length od + length ins ≡ k + p = omega arith in
     let below = status-below r.event r.invalid in
-    let all : All (λ o. o < 256) os =
+    let all : AllByRecursion (λ o. o < 256) os =
     All-append (λ o. o < 256) (od ++ ins) (s ∷ []) (All-append (λ o. o < 256) od ins (fitted-octets k r.on_request w.on_request) (fitted-octets p r.inputs w.inputs)) (below, tt) in
     let last : get_or os (k + p) 0 ≡ s = last-at od ins s (k + p) sum in
     let count : length os ≡ k + p + 1 = length-all od ins s (k + p) sum in
@@ -117,7 +117,7 @@ answer_back n p a r w =
 
 -- ---- read, then written
 
-parts-octets : (n p : ℕ) (a : Access) (os : List ℕ) → All (λ o. o < 256) os → length os ≡ answer_count n p a
+parts-octets : (n p : ℕ) (a : Access) (os : List ℕ) → AllByRecursion (λ o. o < 256) os → length os ≡ answer_count n p a
     → answer_octets n p a (answer_parts n p a os) ≡ opened (answered_od a n + p) os
 parts-octets n p a os h l =
     let k : ℕ = answered_od a n in
@@ -131,7 +131,7 @@ parts-octets n p a os h l =
     let split = set_split os (k + p) (t / 64 * 64) less in
     cc
 
-pub answer-written : (n p : ℕ) (a : Access) (cs : List ℕ) → All (λ c. c < 512) cs → answer_fault n p a cs ≡ None
+pub answer-written : (n p : ℕ) (a : Access) (cs : List ℕ) → AllByRecursion (λ c. c < 512) cs → answer_fault n p a cs ≡ None
     → cs ≡ answer_message n p a (answer_parts n p a (map octet cs))
 unfolding answer_message
 answer-written n p a cs nine h =
@@ -145,7 +145,7 @@ answer-written n p a cs nine h =
 
 -- ---- disturbed
 
-pub answer-sturdy : (n p : ℕ) (a : Access) (cs : List ℕ) → All (λ c. c < 512) cs → answer_fault n p a cs ≡ None → Sturdy (answer_fault n p a) cs
+pub answer-sturdy : (n p : ℕ) (a : Access) (cs : List ℕ) → AllByRecursion (λ c. c < 512) cs → answer_fault n p a cs ≡ None → Sturdy (answer_fault n p a) cs
 answer-sturdy n p a cs nine h =
     let g = answer-good n p a cs nine h in
     record {

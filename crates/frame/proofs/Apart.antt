@@ -2,7 +2,7 @@
 use Rattle.std.proofs.Common.{◌≡◌, ℕ, zero, suc, ◌+◌, ◌*◌, ◌%◌, ◌<◌, ◌≤◌, ◌⊎◌, List, [], ◌∷◌, map, length, get_or, fold, sym, refl, ap, ◌∙◌, inl, inr, arith}
 use lib.Bits.{bit_and, bit_xor, xor_lt, xor_assoc, xor_self, and_mask}
 use lib.Count.{ones}
-use Rattle.std.specs.List.{AllByRecursion as All}
+use Rattle.std.specs.List.{AllByRecursion}
 use Rattle.characters.specs.Character.{Char, octet}
 use Rattle.frame.specs.Check.{cleared, fold_at}
 use Rattle.frame.specs.Disturbed.{turned, turns}
@@ -85,7 +85,7 @@ row-le m p k [] = omega arith
 row-le m p zero (e ∷ es) = omega (arith, ones-and-le (bit_and e 0xc0) m, ones-and-le e 0xc0, ones-and-le e p, tally-le m es)
 row-le m p (suc k) (e ∷ es) = omega (arith, ones-and-le e m, row-le m p k es)
 
-turns-even : (es : List ℕ) → All Char es → turns es % 2 ≡ 0
+turns-even : (es : List ℕ) → AllByRecursion Char es → turns es % 2 ≡ 0
 turns-even [] h = refl
 turns-even (e ∷ es) h = omega (arith, turns-even es h.1, h.0.1)
 
@@ -96,7 +96,7 @@ none-or-two (suc (suc zero)) h l = inr refl
 none-or-two (suc (suc (suc n))) h l = absurd (let z : ⊥ = omega arith in z)
 
 -- two turned bits of one character show in some count, whether it carries the check or not
-loud : (es : List ℕ) → All Char es → turns es ≡ 2 → Six (λ m p. tally m es % 2 ≡ 0) → ⊥
+loud : (es : List ℕ) → AllByRecursion Char es → turns es ≡ 2 → Six (λ m p. tally m es % 2 ≡ 0) → ⊥
 loud [] h two s = omega arith
 loud (e ∷ es) h two s =
     elim (none-or-two (ones e) h.0.1 (omega arith)) [
@@ -104,7 +104,7 @@ loud (e ∷ es) h two s =
       | inr z ↦ plain-caught e h.0.0 z (six-map (λ m p _ _ k. omega (arith, tally-le m es)) s)
     ]
 
-shown : (k : ℕ) (es : List ℕ) → All Char es → 1 ≤ turns es → turns es ≤ 3 → Six (λ m p. row m p k es % 2 ≡ 0) → ⊥
+shown : (k : ℕ) (es : List ℕ) → AllByRecursion Char es → 1 ≤ turns es → turns es ≤ 3 → Six (λ m p. row m p k es % 2 ≡ 0) → ⊥
 shown k [] h low high s = omega arith
 shown zero (e ∷ es) h low high s =
     elim (none-or-two (ones e) h.0.1 (omega arith)) [
@@ -138,12 +138,12 @@ length-turned (c ∷ cs) (m ∷ ms) = ap suc (length-turned cs ms)
 char-xor : (c d : ℕ) → Char c → Char d → Char (bit_xor c d)
 char-xor c d hc hd = (xor_lt 9 c d hc.0 hd.0, omega (arith, ones-xor c d))
 
-chars-xor : (cs ds : List ℕ) → length ds ≡ length cs → All Char cs → All Char ds → All Char (turned cs ds)
+chars-xor : (cs ds : List ℕ) → length ds ≡ length cs → AllByRecursion Char cs → AllByRecursion Char ds → AllByRecursion Char (turned cs ds)
 chars-xor [] ds l hc hd = tt
 chars-xor (c ∷ cs) [] l hc hd = hc
 chars-xor (c ∷ cs) (d ∷ ds) l hc hd = (char-xor c d hc.0 hd.0, chars-xor cs ds (omega arith) hc.1 hd.1)
 
-pub turned-nine : (cs ms : List ℕ) → All (λ c. c < 512) cs → All (λ m. m < 512) ms → All (λ c. c < 512) (turned cs ms)
+pub turned-nine : (cs ms : List ℕ) → AllByRecursion (λ c. c < 512) cs → AllByRecursion (λ m. m < 512) ms → AllByRecursion (λ c. c < 512) (turned cs ms)
 turned-nine [] ms h k = tt
 turned-nine (c ∷ cs) [] h k = h
 turned-nine (c ∷ cs) (m ∷ ms) h k = (xor_lt 9 c m h.0 k.0, turned-nine cs ms h.1 k.1)

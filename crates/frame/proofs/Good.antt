@@ -1,6 +1,6 @@
 -- What it takes for a message to have no fault.
 use Rattle.std.proofs.Common.{◌≡◌, ℕ, ◌+◌, ◌/◌, ◌%◌, ◌<◌, Bool, true, false, cond, List, map, length, get_or, Some, None, refl, arith, eq-eqb, eqb-true}
-use Rattle.std.specs.List.{AllByRecursion as All}
+use Rattle.std.specs.List.{AllByRecursion}
 use Rattle.characters.specs.Character.{Char, octet}
 use Rattle.frame.specs.Check.{check_at}
 use Rattle.characters.specs.Fault.{odd, silent}
@@ -20,13 +20,13 @@ pass b f e = rw e
 -- A message of the demanded count whose octet at place k carries the right check.
 pub record Good (n k : ℕ) (cs : List ℕ) : Type 0 where
   pub some : 0 < length cs
-  pub chars : All Char cs
+  pub chars : AllByRecursion Char cs
   pub count : length (map octet cs) ≡ n
   pub check : get_or (map octet cs) k 0 % 64 ≡ check_at k (map octet cs)
 
 -- ---- Master messages
 
-pub master-good : (kind n q : ℕ) (cs : List ℕ) → All (λ c. c < 512) cs → master_fault kind n q cs ≡ None
+pub master-good : (kind n q : ℕ) (cs : List ℕ) → AllByRecursion (λ c. c < 512) cs → master_fault kind n q cs ≡ None
     → Good (master_count n q (map octet cs)) 1 cs × (get_or (map octet cs) 1 0 / 64 ≡ kind)
 unfolding master_fault
 master-good kind n q cs nine h =
@@ -56,7 +56,7 @@ good-master kind n q cs g t =
 
 -- ---- answers
 
-pub answer-good : (n p : ℕ) (a : Access) (cs : List ℕ) → All (λ c. c < 512) cs → answer_fault n p a cs ≡ None
+pub answer-good : (n p : ℕ) (a : Access) (cs : List ℕ) → AllByRecursion (λ c. c < 512) cs → answer_fault n p a cs ≡ None
     → Good (answer_count n p a) (answered_od a n + p) cs
 unfolding answer_fault
 answer-good n p a cs nine h =

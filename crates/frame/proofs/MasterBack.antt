@@ -1,7 +1,7 @@
 -- Master messages: what is written is read back, what is read is what its parts write, and no small damage passes.
 use Rattle.std.proofs.Common.{◌≡◌, ℕ, zero, suc, ◌+◌, ◌*◌, ◌/◌, ◌<◌, true, List, [], ◌∷◌, ◌++◌, map, length, get_or, take, drop, None, Ok, sym, refl, ap, ◌∙◌, subst, arith, length-append, length-drop, take-append-drop, length-take}
 use lib.ListN.{length-map}
-use Rattle.std.specs.List.{AllByRecursion as All}
+use Rattle.std.specs.List.{AllByRecursion}
 use Rattle.std.proofs.ByRecursion.{All-append, All-take}
 use Rattle.std.proofs.lemmas.List.{take_at, drop_at}
 use Rattle.characters.specs.Character.{octet}
@@ -22,12 +22,12 @@ use Rattle.frame.proofs.Sealed.{check-small, good-sealed, octets-sealed, opened,
 -- Octets, and a channel that exists.
 pub record Octetful (m : MasterParts) : Type 0 where
   pub exists : is_channel m.channel ≡ true
-  pub outputs : All (λ o. o < 256) m.outputs
-  pub on_request : All (λ o. o < 256) m.on_request
+  pub outputs : AllByRecursion (λ o. o < 256) m.outputs
+  pub on_request : AllByRecursion (λ o. o < 256) m.on_request
 
 -- ---- written, then read
 
-octets-of : (kind n q : ℕ) (m : MasterParts) → kind < 4 → Octetful m → All (λ o. o < 256) (master_octets kind n q m)
+octets-of : (kind n q : ℕ) (m : MasterParts) → kind < 4 → Octetful m → AllByRecursion (λ o. o < 256) (master_octets kind n q m)
 octets-of kind n q m h w = (
   control-below m.access m.channel w.exists,
   (
@@ -72,7 +72,7 @@ master-back kind n q m h w =
 -- ---- read, then written
 
 -- the octets of the parts are those read, with the check taken out
-parts-octets : (kind n q : ℕ) (os : List ℕ) → All (λ o. o < 256) os → length os ≡ master_count n q os → get_or os 1 0 / 64 ≡ kind
+parts-octets : (kind n q : ℕ) (os : List ℕ) → AllByRecursion (λ o. o < 256) os → length os ≡ master_count n q os → get_or os 1 0 / 64 ≡ kind
     → master_octets kind n q (master_parts q os) ≡ opened 1 os
 parts-octets kind n q [] h l k = absurd (let z : ⊥ = omega arith in z)
 parts-octets kind n q (a ∷ []) h l k = absurd (let z : ⊥ = omega arith in z)
@@ -85,7 +85,7 @@ parts-octets kind n q (a ∷ b ∷ d) h l k =
     let u : kind * 64 ≡ b / 64 * 64 = ap (λ (x : ℕ). x * 64) (sym k) in
     cc
 
-pub master-written : (kind n q : ℕ) (cs : List ℕ) → All (λ c. c < 512) cs → master_fault kind n q cs ≡ None
+pub master-written : (kind n q : ℕ) (cs : List ℕ) → AllByRecursion (λ c. c < 512) cs → master_fault kind n q cs ≡ None
     → cs ≡ master_message kind n q (master_parts q (map octet cs))
 unfolding master_message
 master-written kind n q cs nine h =
@@ -103,7 +103,7 @@ cut-first zero cs h = absurd (let z : ⊥ = omega arith in z)
 cut-first (suc k) [] h = refl
 cut-first (suc k) (c ∷ cs) h = refl
 
-master-cut : (kind n q : ℕ) (cs : List ℕ) (k : ℕ) → All (λ c. c < 512) cs → master_fault kind n q cs ≡ None → k < length cs
+master-cut : (kind n q : ℕ) (cs : List ℕ) (k : ℕ) → AllByRecursion (λ c. c < 512) cs → master_fault kind n q cs ≡ None → k < length cs
     → master_fault kind n q (take k cs) ≡ None → ⊥
 master-cut kind n q cs k nine h less h' =
     let g = (master-good kind n q cs nine h).0 in
@@ -119,7 +119,7 @@ master-cut kind n q cs k nine h less h' =
       length-take k cs,
     )
 
-pub master-sturdy : (kind n q : ℕ) (cs : List ℕ) → All (λ c. c < 512) cs → master_fault kind n q cs ≡ None → Sturdy (master_fault kind n q) cs
+pub master-sturdy : (kind n q : ℕ) (cs : List ℕ) → AllByRecursion (λ c. c < 512) cs → master_fault kind n q cs ≡ None → Sturdy (master_fault kind n q) cs
 master-sturdy kind n q cs nine h =
     record {
       good = h;

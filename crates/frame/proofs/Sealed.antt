@@ -2,7 +2,7 @@
 use Rattle.std.proofs.Common.{◌≡◌, ℕ, ◌+◌, ◌*◌, ◌/◌, ◌%◌, ◌<◌, List, map, length, get_or, set, fold, sym, ap, ◌∙◌, arith, length-set}
 use lib.Bits.{bit_and, bit_xor, and_high}
 use lib.ListN.{length-map}
-use Rattle.std.specs.List.{AllByRecursion as All}
+use Rattle.std.specs.List.{AllByRecursion}
 use Rattle.std.proofs.ByRecursion.{All-get_or, All-set}
 use Rattle.std.proofs.lemmas.List.{get_or-set_same, set-get_or, set-set}
 use Rattle.characters.specs.Character.{character, octet}
@@ -40,13 +40,13 @@ carrier-check k os l h z =
     let b = carrier-below k os h z in
     check-same k (carrier k os) os l (upper (carrier k os) b ∙ (let e : carrier k os / 64 * 64 ≡ get_or os k 0 / 64 * 64 = omega arith in e) ∙ sym (upper (get_or os k 0) h))
 
-pub octets-sealed : (k : ℕ) (os : List ℕ) → All (λ o. o < 256) os → k < length os → get_or os k 0 % 64 ≡ 0
+pub octets-sealed : (k : ℕ) (os : List ℕ) → AllByRecursion (λ o. o < 256) os → k < length os → get_or os k 0 % 64 ≡ 0
     → map octet (sealed k os) ≡ set os k (carrier k os)
 octets-sealed k os h l z =
     let o : get_or os k 0 < 256 = All-get_or (λ o. o < 256) os k 0 l h in
     octets-coded (set os k (carrier k os)) (All-set (λ o. o < 256) os k (carrier k os) (carrier-below k os o z) h)
 
-pub sealed-good : (k : ℕ) (os : List ℕ) → All (λ o. o < 256) os → k < length os → get_or os k 0 % 64 ≡ 0 → Good (length os) k (sealed k os)
+pub sealed-good : (k : ℕ) (os : List ℕ) → AllByRecursion (λ o. o < 256) os → k < length os → get_or os k 0 % 64 ≡ 0 → Good (length os) k (sealed k os)
 sealed-good k os h l z =
     let o : get_or os k 0 < 256 = All-get_or (λ o. o < 256) os k 0 l h in
     let e = octets-sealed k os h l z in

@@ -1,7 +1,7 @@
 -- Octets of a given count.
 use Rattle.std.proofs.Common.{◌≡◌, ℕ, zero, suc, ◌+◌, ◌-◌, ◌<◌, ◌≤◌, Bool, true, cond, List, [], ◌∷◌, ◌++◌, length, get_or, take, drop, replicate, refl, ap, ◌∙◌, suc-add, zero-add, add-one, arith}
 use native.Mathlib.Nat.{sub-zero}
-use Rattle.std.specs.List.{AllByRecursion as All}
+use Rattle.std.specs.List.{AllByRecursion}
 use Rattle.std.proofs.lemmas.List.{append_assoc}
 use Rattle.octets.specs.Octets.{fitted}
 
@@ -31,7 +31,7 @@ fitted-exact zero (o ∷ os) l = absurd (let z : ⊥ = omega arith in z)
 fitted-exact (suc n) [] l = absurd (let z : ⊥ = omega arith in z)
 fitted-exact (suc n) (o ∷ os) l = ap (λ (xs : List ℕ). o ∷ xs) (fitted-exact n os (omega arith))
 
-pub fitted-octets : (n : ℕ) (os : List ℕ) → All (λ o. o < 256) os → All (λ o. o < 256) (fitted n os)
+pub fitted-octets : (n : ℕ) (os : List ℕ) → AllByRecursion (λ o. o < 256) os → AllByRecursion (λ o. o < 256) (fitted n os)
 fitted-octets zero os h = tt
 fitted-octets (suc n) [] h = (omega arith, fitted-octets n [] tt)
 fitted-octets (suc n) (o ∷ os) h = (h.0, fitted-octets n os h.1)

@@ -7,7 +7,7 @@ use Rattle.control.specs.declared.channel.Channel.TheVariants.{Isdu}
 use Rattle.control.specs.declared.channel.FlowCtrl.TheVariants.{Idle}
 use Rattle.frame.specs.Check.{check_at}
 use Rattle.frame.specs.Message.{AnswerParts, MasterParts, answer_message, master_fault, master_message}
-use Rattle.std.specs.List.{AllByRecursion as All}
+use Rattle.std.specs.List.{AllByRecursion}
 
 -- Octets as the definitions give them and as they are known, or a message that has no fault.
 pub data Case : Type 0 where
@@ -39,4 +39,4 @@ cases =
 
 -- Every worked case holds.
 abbrev pub Worked : Type 0
-Worked = All Holds cases
+Worked = AllByRecursion Holds cases

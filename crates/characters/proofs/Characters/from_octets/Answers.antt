@@ -5,7 +5,7 @@ use Rattle.characters.specs.Character.{Char, character, octet}
 use Rattle.characters.specs.Characters.{characters}
 use Rattle.octets.specs.Octets.{octets}
 use Rattle.octets.proofs.Below.{row-octets}
-use Rattle.std.specs.List.{AllByRecursion as All}
+use Rattle.std.specs.List.{AllByRecursion}
 use Rattle.characters.proofs.OneToOne.{chars-coded, octets-coded}
 use Rattle.characters.proofs.Rows.{grown-more}
 use Rattle.characters.proofs.Characters.from_octets.Goals as goal
@@ -28,4 +28,4 @@ returns c =
     let below = row-octets c.args.row.now in
     let e = take_all c.loop-value.value-index c.as_slice-values.result.now c.loop-value-test.false in
     let value : characters c.loop-value.coded ≡ map character os = c.loop-value.invariant ∙ ap (map character) (e ∙ c.as_slice-values.ensures.value) in
-    record { value = value; back = ap (map octet) value ∙ octets-coded os below; right = subst (All Char) (sym value) (chars-coded os below) }
+    record { value = value; back = ap (map octet) value ∙ octets-coded os below; right = subst (AllByRecursion Char) (sym value) (chars-coded os below) }
