@@ -4,9 +4,9 @@ use Rattle.control.specs.Control.{control_octet}
 use Rattle.control.specs.declared.Control.{Control}
 use Rattle.text.specs.Number.{read_flag, read_number}
 use Rattle.text.specs.Text.{read_chars, read_hex}
-use Rattle.script.specs.Words.{after_word, first_word}
+use Rattle.script.specs.Words.{after_word, first_word, service_word}
 use Rattle.script.specs.declared.command.Command.{Command}
-use Rattle.script.specs.declared.command.Command.TheVariants.{OpenFrame, Message, Answer, Put, Reply}
+use Rattle.script.specs.declared.command.Command.TheVariants.{OpenFrame, Message, Answer, Put, Reply, Request, Response, EncodeRead, EncodeWrite}
 
 abbrev pub octet_of : Control → ℕ
 octet_of c = control_octet c.access c.channel
@@ -35,6 +35,13 @@ Says (Reply control asked inputs event invalid) text =
     × (read_hex (word_at 2 text) ≡ Some (vec_items inputs))
     × (read_flag (word_at 3 text) ≡ Some event)
     × (read_flag (word_at 4 text) ≡ Some invalid)
+Says (Request os) text = read_hex (first_word text) ≡ Some (vec_items os)
+Says (Response service os) text = (first_word text ≡ service_word service) × (read_hex (word_at 1 text) ≡ Some (vec_items os))
+Says (EncodeRead at) text =
+    (first_word text ≡ codes "read") × (read_number (word_at 1 text) ≡ Some at.0) × (read_number (word_at 2 text) ≡ Some at.1)
+Says (EncodeWrite at os) text =
+    (first_word text ≡ codes "write") × (read_number (word_at 1 text) ≡ Some at.0) × (read_number (word_at 2 text) ≡ Some at.1)
+    × (read_hex (word_at 3 text) ≡ Some (vec_items os))
 
 -- The name of a command, and how many words follow it.
 abbrev pub name_of : Command → List ℕ
@@ -43,6 +50,10 @@ name_of (Message record') = codes "message"
 name_of (Answer control record') = codes "answer"
 name_of (Put control outputs asked) = codes "put"
 name_of (Reply control asked inputs event invalid) = codes "reply"
+name_of (Request os) = codes "request"
+name_of (Response service os) = codes "response"
+name_of (EncodeRead at) = codes "encode"
+name_of (EncodeWrite at os) = codes "encode"
 
 abbrev pub count : Command → ℕ
 count (OpenFrame n p q) = 4
@@ -50,6 +61,10 @@ count (Message record') = 1
 count (Answer control record') = 2
 count (Put control outputs asked) = 3
 count (Reply control asked inputs event invalid) = 5
+count (Request os) = 1
+count (Response service os) = 2
+count (EncodeRead at) = 3
+count (EncodeWrite at os) = 4
 
 -- A text is a command: its name, the words that it takes, and no more.
 pub record IsCommand (text : List ℕ) (command : Command) : Type 0 where

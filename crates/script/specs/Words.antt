@@ -1,5 +1,7 @@
 -- The words of a line: what stands between blanks, up to a `#`.
-use Rattle.std.specs.Prelude.{ℕ, Bool, cond, not, ◌||◌, List, [], ◌∷◌, ◌==◌}
+use Rattle.std.specs.Prelude.{ℕ, Bool, cond, not, ◌||◌, List, [], ◌∷◌, codes, ◌==◌}
+use Rattle.isdu.specs.declared.service.Service.{Service}
+use Rattle.isdu.specs.declared.service.Service.TheVariants.{Read, Write}
 
 -- What stands before the first byte that passes a test, and from there on.
 abbrev pub up_to : (ℕ → Bool) → List ℕ → List ℕ
@@ -30,3 +32,8 @@ first_word text = up_to is_blank (onward is_letter text)
 
 abbrev pub after_word : List ℕ → List ℕ
 after_word text = onward is_blank (onward is_letter text)
+
+-- The word for the kind of an order.
+abbrev pub service_word : Service → List ℕ
+service_word Read = codes "read"
+service_word Write = codes "write"

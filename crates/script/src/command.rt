@@ -7,6 +7,7 @@ use crate::mistake::{Mistake, Part};
 use crate::reader::Words;
 use crate::word::{is_word, without_comment};
 use control::Control;
+use isdu::service::Service;
 use std::alloc::Global;
 
 #[derive(Drop)]
@@ -39,6 +40,24 @@ pub enum Command {
         inputs: Vec<u8>,
         event: bool,
         invalid: bool,
+    },
+    /// Reads a request.
+    Request {
+        octets: Vec<u8>,
+    },
+    /// Reads what has come of the reply to an order of this kind.
+    Response {
+        service: Service,
+        octets: Vec<u8>,
+    },
+    /// Writes the request of a read.
+    EncodeRead {
+        address: (u16, u8),
+    },
+    /// Writes the request of a write.
+    EncodeWrite {
+        address: (u16, u8),
+        octets: Vec<u8>,
     },
 }
 
@@ -75,6 +94,12 @@ fn arguments(name: &[u8], words: &mut Words<'_>) -> Result<Command, Mistake>
         put(words)
     } else if is_word(name, b"reply") {
         reply(words)
+    } else if is_word(name, b"request") {
+        request(words)
+    } else if is_word(name, b"response") {
+        response(words)
+    } else if is_word(name, b"encode") {
+        encode(words)
     } else {
         Err(Mistake::NoCommand(String::from_utf8_lossy(words.heap, name)?))
     }
@@ -146,4 +171,39 @@ fn reply(words: &mut Words<'_>) -> Result<Command, Mistake>
         event,
         invalid,
     })
+}
+
+fn request(words: &mut Words<'_>) -> Result<Command, Mistake>
+    ensures named { IfOk result (λ c. name_of c ≡ codes "request") }
+    ensures says { IfOk result (λ c. Says c words.old.rest.now) }
+    ensures rest { IfOk result (λ c. words.new.rest.now ≡ after_words (count c) words.old.rest.now) }
+{
+    let octets = words.octets(Part::Octets)?;
+    Ok(Command::Request { octets })
+}
+
+fn response(words: &mut Words<'_>) -> Result<Command, Mistake>
+    ensures named { IfOk result (λ c. name_of c ≡ codes "response") }
+    ensures says { IfOk result (λ c. Says c words.old.rest.now) }
+    ensures rest { IfOk result (λ c. words.new.rest.now ≡ after_words (count c) words.old.rest.now) }
+{
+    let service = words.service()?;
+    let octets = words.octets(Part::Octets)?;
+    Ok(Command::Response { service, octets })
+}
+
+fn encode(words: &mut Words<'_>) -> Result<Command, Mistake>
+    ensures named { IfOk result (λ c. name_of c ≡ codes "encode") }
+    ensures says { IfOk result (λ c. Says c words.old.rest.now) }
+    ensures rest { IfOk result (λ c. words.new.rest.now ≡ after_words (count c) words.old.rest.now) }
+{
+    let service = words.service()?;
+    let address = words.address()?;
+    match service {
+        Service::Read => Ok(Command::EncodeRead { address }),
+        Service::Write => {
+            let octets = words.octets(Part::Octets)?;
+            Ok(Command::EncodeWrite { address, octets })
+        }
+    }
 }

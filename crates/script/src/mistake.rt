@@ -17,6 +17,10 @@ pub enum Part {
     Inputs,
     EventFlag,
     InvalidMark,
+    Service,
+    Index,
+    Subindex,
+    Octets,
 }
 
 impl fmt::Display for Part {
@@ -33,6 +37,10 @@ impl fmt::Display for Part {
             Part::Inputs => "inputs",
             Part::EventFlag => "event flag",
             Part::InvalidMark => "invalid mark",
+            Part::Service => "write or read",
+            Part::Index => "index",
+            Part::Subindex => "subindex",
+            Part::Octets => "octets",
         };
         f.write_str(name)
     }
@@ -44,6 +52,8 @@ pub enum Mistake {
     NoCommand(String),
     /// Nothing of this kind can be opened.
     NoKind(String),
+    /// An order is of no such kind.
+    NoService(String),
     /// The line ends before this part.
     Missing(Part),
     /// A word of another form than its part has.
@@ -69,6 +79,7 @@ impl fmt::Display for Mistake {
         match self {
             Mistake::NoCommand(word) => write!(f, "no command is called '{word}'"),
             Mistake::NoKind(word) => write!(f, "'{word}' cannot be opened"),
+            Mistake::NoService(word) => write!(f, "'{word}' is neither write nor read"),
             Mistake::Missing(part) => write!(f, "{part} missing"),
             Mistake::Wrong { part, word, flaw } => write!(f, "{part}: '{word}' {flaw}"),
             Mistake::TooMany(word) => write!(f, "'{word}' is a word too many"),

@@ -1,13 +1,14 @@
 //! The words of a line, read one after another as what they should be.
-ghost use Rattle.std.specs.Prelude.{◌≡◌, [], IfOk, Some, OnOk};
+ghost use Rattle.std.specs.Prelude.{◌≡◌, ◌≤◌, [], IfOk, Some, OnOk};
 ghost use Rattle.text.specs.Number.{read_flag, read_number};
 ghost use Rattle.text.specs.Text.{read_chars, read_hex};
-ghost use Rattle.script.specs.Words.{after_word, first_word};
+ghost use Rattle.script.specs.Words.{after_word, first_word, service_word};
 ghost use Rattle.control.specs.Control.{control_octet};
 
 use crate::mistake::{Mistake, Part};
-use crate::word::split_word;
+use crate::word::{is_word, split_word};
 use control::Control;
+use isdu::service::Service;
 use std::alloc::Global;
 use text::chars::parse_chars;
 use text::flaw::Flaw;
@@ -52,25 +53,58 @@ impl<'a> Words<'a> {
         }
     }
 
+    // A number of at most `most`.
+    fn number(&mut self, part: Part, most: u32) -> Result<u32, Mistake>
+        ensures number { IfOk result (λ n. read_number (first_word self.old.rest.now) ≡ Some n) }
+        ensures bound { IfOk result (λ n. n ≤ most) }
+        ensures rest { self.new.rest.now ≡ after_word self.old.rest.now }
+    {
+        let word = self.word(part)?;
+        match parse_number(word, most) {
+            Ok(number) => Ok(number),
+            Err(flaw) => Err(self.wrong(part, word, flaw)),
+        }
+    }
+
     pub(crate) fn count(&mut self, part: Part) -> Result<usize, Mistake>
         ensures number { IfOk result (λ n. read_number (first_word self.old.rest.now) ≡ Some n) }
         ensures rest { self.new.rest.now ≡ after_word self.old.rest.now }
     {
-        let word = self.word(part)?;
-        match parse_number(word, u32::MAX) {
-            Ok(number) => Ok(number as usize),
-            Err(flaw) => Err(self.wrong(part, word, flaw)),
-        }
+        let number = self.number(part, u32::MAX)?;
+        Ok(number as usize)
     }
 
     pub(crate) fn control(&mut self) -> Result<Control, Mistake>
         ensures octet { IfOk result (λ c. read_number (first_word self.old.rest.now) ≡ Some (control_octet c.access c.channel)) }
         ensures rest { self.new.rest.now ≡ after_word self.old.rest.now }
     {
-        let word = self.word(Part::Control)?;
-        match parse_number(word, 255) {
-            Ok(octet) => Ok(Control::from_octet(octet as u8)),
-            Err(flaw) => Err(self.wrong(Part::Control, word, flaw)),
+        let octet = self.number(Part::Control, 255)?;
+        Ok(Control::from_octet(octet as u8))
+    }
+
+    /// An index and a subindex.
+    pub(crate) fn address(&mut self) -> Result<(u16, u8), Mistake>
+        ensures index { IfOk result (λ a. read_number (first_word self.old.rest.now) ≡ Some a.0) }
+        ensures subindex { IfOk result (λ a. read_number (first_word (after_word self.old.rest.now)) ≡ Some a.1) }
+        ensures rest { OnOk result (self.new.rest.now ≡ after_word (after_word self.old.rest.now)) }
+    {
+        let index = self.number(Part::Index, 65535)?;
+        let subindex = self.number(Part::Subindex, 255)?;
+        Ok((index as u16, subindex as u8))
+    }
+
+    /// The kind of an order.
+    pub(crate) fn service(&mut self) -> Result<Service, Mistake>
+        ensures service { IfOk result (λ s. first_word self.old.rest.now ≡ service_word s) }
+        ensures rest { self.new.rest.now ≡ after_word self.old.rest.now }
+    {
+        let word = self.word(Part::Service)?;
+        if is_word(word, b"write") {
+            Ok(Service::Write)
+        } else if is_word(word, b"read") {
+            Ok(Service::Read)
+        } else {
+            Err(Mistake::NoService(String::from_utf8_lossy(self.heap, word)?))
         }
     }
 
