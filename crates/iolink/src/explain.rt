@@ -1,5 +1,7 @@
 //! What comes of a command, in words.
 use crate::diagnosis::Detail;
+use crate::held::HeldVerdict;
+use crate::orders::{explain_order, explain_reply};
 use crate::outcome::Outcome;
 use characters::Characters;
 use characters::refusal::Refusal;
@@ -7,6 +9,8 @@ use control::Control;
 use control::channel::{Access, Channel, FlowCtrl};
 use frame::lengths::Lengths;
 use frame::message::{Answer, MasterMessage};
+use isdu::opened::NoIsdu;
+use isdu::request::read_request;
 use std::fmt;
 use text::hex::Hex;
 
@@ -23,6 +27,10 @@ impl fmt::Display for Explained {
             Outcome::Answer(answer) => explain_answer(f, answer),
             Outcome::Faulty(diagnosis) => explain_fault(f, diagnosis.detail),
             Outcome::Written(record) => explain_record(f, record),
+            Outcome::Request(Ok(order)) => explain_order(f, "asks", &order.as_order()),
+            Outcome::Request(Err(why)) => explain_no_order(f, *why),
+            Outcome::Response(verdict) => explain_verdict(f, verdict),
+            Outcome::Encoded(octets) => explain_encoded(f, octets.as_slice()),
         }
     }
 }
@@ -131,5 +139,29 @@ fn explain_record<W: fmt::Write>(f: &mut fmt::Formatter<W>, record: &Characters)
     match record.octets() {
         Ok(row) => explain_octets(f, "octets", row.as_slice()),
         Err(_) => Ok(()),
+    }
+}
+
+fn explain_no_order<W: fmt::Write>(f: &mut fmt::Formatter<W>, why: NoIsdu) -> fmt::Result {
+    let why = match why {
+        NoIsdu::Incomplete => "octets are still to come",
+        NoIsdu::BadTotal => "the first octets say a total that no ISDU has",
+        NoIsdu::NotWellFormed => "the octets are all there, and are no request",
+    };
+    writeln!(f, "    {why}")
+}
+
+fn explain_verdict<W: fmt::Write>(f: &mut fmt::Formatter<W>, verdict: &HeldVerdict) -> fmt::Result {
+    match verdict {
+        HeldVerdict::GoOn => writeln!(f, "    octets are still to come"),
+        HeldVerdict::Broken => writeln!(f, "    no reply of this kind can come of these octets"),
+        HeldVerdict::Complete(reply) => explain_reply(f, &reply.as_reply()),
+    }
+}
+
+fn explain_encoded<W: fmt::Write>(f: &mut fmt::Formatter<W>, octets: &[u8]) -> fmt::Result {
+    match read_request(octets) {
+        Ok(order) => explain_order(f, "asks", &order),
+        Err(why) => explain_no_order(f, why),
     }
 }

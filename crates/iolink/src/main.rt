@@ -12,8 +12,10 @@ use std::io::Read;
 
 mod diagnosis;
 mod explain;
+mod held;
 mod lines;
 mod options;
+mod orders;
 mod outcome;
 mod session;
 

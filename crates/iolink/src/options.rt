@@ -14,13 +14,19 @@ Reads a script from FILE, or from standard input, and prints a line for each com
   answer CONTROL CHARS                         reads the answer to a message
   put CONTROL OUTPUTS ONREQUEST                writes a Master message
   reply CONTROL ONREQUEST INPUTS FLAG INVALID  writes the answer to a message
+  request HEX                                  reads a request
+  response write|read HEX                      reads what has come of the reply to a request
+  encode write INDEX SUB HEX                   writes a request to write octets
+  encode read INDEX SUB                        writes a request to read
 
   CHARS     characters of three hexadecimal digits joined by '.', as 1F1.194.000
   CONTROL   the control octet of the message, as 241 or 0xF1
-  OUTPUTS, INPUTS, ONREQUEST
+  HEX, OUTPUTS, INPUTS, ONREQUEST
             octets of two hexadecimal digits, as 00FF
   FLAG      1 if the answer shows events, else 0
   INVALID   1 if the inputs are not valid, else 0
+  INDEX     0 to 65535, as 24 or 0x18
+  SUB       the subindex, 0 to 255
 
   '-' stands for no characters or octets, and '#' starts a comment.
 ";

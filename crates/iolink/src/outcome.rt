@@ -1,10 +1,16 @@
 //! What comes of a command, as the transcript prints it.
 use crate::diagnosis::Diagnosis;
+use crate::held::{HeldOrder, HeldVerdict};
 use characters::Characters;
 use characters::fault::{Fault, Layer};
 use characters::refusal::Refusal;
 use frame::lengths::Lengths;
 use frame::message::{Answer, MasterMessage};
+use isdu::MOST;
+use isdu::opened::NoIsdu;
+use isdu::order::Order;
+use isdu::reply::Reply;
+use octets::Octets;
 use script::mistake::{Mistake, Part};
 use std::fmt;
 use text::chars::Chars;
@@ -19,6 +25,9 @@ pub enum Outcome {
     Answer(Answer),
     Faulty(Diagnosis),
     Written(Characters),
+    Request(Result<HeldOrder, NoIsdu>),
+    Response(HeldVerdict),
+    Encoded(Octets<MOST>),
 }
 
 /// Why a line is no command that can be run.
@@ -52,6 +61,10 @@ impl fmt::Display for Outcome {
             Outcome::Answer(answer) => write_answer(f, answer),
             Outcome::Faulty(diagnosis) => write_fault(f, diagnosis.fault),
             Outcome::Written(record) => write!(f, "{}", Chars(record.as_slice())),
+            Outcome::Request(Ok(order)) => write_order(f, &order.as_order()),
+            Outcome::Request(Err(why)) => write_no_order(f, *why),
+            Outcome::Response(verdict) => write_verdict(f, verdict),
+            Outcome::Encoded(octets) => write!(f, "{}", Hex(octets.as_slice())),
         }
     }
 }
@@ -85,6 +98,44 @@ fn write_fault<W: fmt::Write>(f: &mut fmt::Formatter<W>, fault: Fault) -> fmt::R
     };
     let number = fault.number();
     write!(f, "fault {layer} {cause} {number}")
+}
+
+fn write_order<W: fmt::Write>(f: &mut fmt::Formatter<W>, order: &Order<'_>) -> fmt::Result {
+    match order {
+        Order::Read {
+            address: (index, subindex),
+        } => write!(f, "read {index} {subindex}"),
+        Order::Write {
+            address: (index, subindex),
+            data,
+        } => write!(f, "write {index} {subindex} {}", Hex(data)),
+    }
+}
+
+fn write_no_order<W: fmt::Write>(f: &mut fmt::Formatter<W>, why: NoIsdu) -> fmt::Result {
+    f.write_str(match why {
+        NoIsdu::Incomplete => "incomplete",
+        NoIsdu::BadTotal => "bad total",
+        NoIsdu::NotWellFormed => "not well formed",
+    })
+}
+
+fn write_verdict<W: fmt::Write>(f: &mut fmt::Formatter<W>, verdict: &HeldVerdict) -> fmt::Result {
+    match verdict {
+        HeldVerdict::GoOn => f.write_str("go on"),
+        HeldVerdict::Broken => f.write_str("report broken"),
+        HeldVerdict::Complete(reply) => write_report(f, &reply.as_reply()),
+    }
+}
+
+fn write_report<W: fmt::Write>(f: &mut fmt::Formatter<W>, reply: &Reply<'_>) -> fmt::Result {
+    match reply {
+        Reply::WriteRefused(error) | Reply::ReadRefused(error) => {
+            write!(f, "report refused {error:04X}")
+        }
+        Reply::WriteDone => f.write_str("report written"),
+        Reply::ReadDone(data) => write!(f, "report read {}", Hex(data)),
+    }
 }
 
 impl fmt::Display for Problem {

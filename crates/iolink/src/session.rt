@@ -1,10 +1,12 @@
 //! What is open while a script runs, and what its commands do there.
 ghost use Rattle.std.specs.Prelude.{◌≡◌, ◌≤◌, length, IfOk, Some, None, MatchResult, OnErr, ◌≢◌};
-ghost use Rattle.iolink.specs.Commands.{Obeys, Opens, Plays, PutCounts, Receives, ReplyCounts, Takes, Writes, answer_of, message_of};
+ghost use Rattle.iolink.specs.Commands.{Asks, Encodes, Judges, Obeys, Opens, Plays, PutCounts, Receives, ReplyCounts, Takes, Writes, answer_of, message_of};
 ghost use Rattle.frame.specs.View.{answered_by, sent_by};
+ghost use Rattle.isdu.specs.Order.{order_view, read};
 ghost use Rattle.octets.specs.Octets.{octets};
 
 use crate::diagnosis::Diagnosis;
+use crate::held::{HeldOrder, HeldVerdict};
 use crate::outcome::{Outcome, Problem};
 use characters::Characters;
 use control::Control;
@@ -12,6 +14,10 @@ use control::channel::Access;
 use frame::codec::Codec;
 use frame::lengths::Lengths;
 use frame::message::{Answer, MasterMessage, SequenceType};
+use isdu::order::Order;
+use isdu::request::{read_request, write_request};
+use isdu::response::read_reply;
+use isdu::service::Service;
 use octets::Octets;
 use script::command::{Command, parse_line};
 use script::mistake::Part;
@@ -81,6 +87,16 @@ impl Session {
                     *event,
                     *invalid,
                 )
+            }
+            Command::Request { octets } => Ok(request(octets.as_slice())),
+            Command::Response { service, octets } => Ok(response(*service, octets.as_slice())),
+            Command::EncodeRead { address } => Ok(encode(&to_read(*address))),
+            Command::EncodeWrite { address, octets } => {
+                let order = Order::Write {
+                    address: *address,
+                    data: octets.as_slice(),
+                };
+                Ok(encode(&order))
             }
         }
     }
@@ -169,6 +185,38 @@ fn reply(
         invalid,
     };
     Ok(Outcome::Written(line.write_answer(access, &answer)))
+}
+
+fn request(octets: &[u8]) -> Outcome
+    ensures { Asks octets.now result }
+{
+    match read_request(octets) {
+        Ok(order) => Outcome::Request(Ok(HeldOrder::of(&order))),
+        Err(why) => Outcome::Request(Err(why)),
+    }
+}
+
+fn response(service: Service, octets: &[u8]) -> Outcome
+    ensures { Judges service octets.now result }
+{
+    let verdict = read_reply(service, octets);
+    Outcome::Response(HeldVerdict::of(&verdict))
+}
+
+// An order to read, which borrows no octets.
+fn to_read(address: (u16, u8)) -> Order<'static>
+    ensures { order_view result ≡ read address }
+{
+    Order::Read { address }
+}
+
+fn encode(order: &Order<'_>) -> Outcome
+    ensures { Encodes (order_view order.now) result }
+{
+    match write_request(order) {
+        Ok(row) => Outcome::Encoded(row),
+        Err(refusal) => Outcome::Refused(refusal),
+    }
 }
 
 // Octets of which there are as many as expected, at most 32.
