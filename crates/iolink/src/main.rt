@@ -18,6 +18,8 @@ mod options;
 mod orders;
 mod outcome;
 mod session;
+#[cfg(test)]
+mod tests;
 
 fn main(rt: HostRuntime) -> anyhow::Result<()> {
     match run(&rt) {

@@ -1,1 +1,2 @@
+pub mod Isdus
 pub mod Worked

@@ -2,6 +2,7 @@
 #![tactic(auto)]
 
 ghost use Rattle.std.specs.Prelude.{◌≡◌, length};
+ghost use Rattle.worked.specs.Isdus.{WorkedIsdus, isdu_cases};
 ghost use Rattle.worked.specs.Worked.{Worked, cases};
 
 /// How many worked cases there are. That each of them holds is the contract's theorem.
@@ -16,4 +17,18 @@ fn case_count() -> usize
     ensures { result ≡ length cases }
 {
     5
+}
+
+/// How many worked cases of ISDUs there are. That each of them holds is the contract's theorem.
+pub fn worked_isdus() -> usize
+    ensures count { result ≡ length isdu_cases }
+    ensures hold { WorkedIsdus }
+{
+    isdu_count()
+}
+
+fn isdu_count() -> usize
+    ensures { result ≡ length isdu_cases }
+{
+    8
 }
