@@ -9,6 +9,7 @@ use crate::session::Session;
 use anyhow::anyhow;
 use std::fs;
 use std::io::Read;
+use std::process::ExitCode;
 
 mod diagnosis;
 mod explain;
@@ -21,12 +22,12 @@ mod session;
 #[cfg(test)]
 mod tests;
 
-fn main(rt: HostRuntime) -> anyhow::Result<()> {
+fn main(rt: HostRuntime) -> ExitCode {
     match run(&rt) {
-        Ok(()) => Ok(()),
+        Ok(()) => ExitCode::SUCCESS,
         Err(error) => {
             let _ = eprintln!(rt; "iolink: {error}");
-            Err(error)
+            ExitCode::FAILURE
         }
     }
 }
