@@ -32,3 +32,14 @@ fn isdu_count() -> usize
 {
     8
 }
+
+#[cfg(test)]
+mod tests {
+    use super::*;
+
+    #[test]
+    fn tables_are_counted(rt: HostRuntime) {
+        assert_eq!(rt; worked_cases(), 5);
+        assert_eq!(rt; worked_isdus(), 8);
+    }
+}
