@@ -1,10 +1,11 @@
 //! Orders and verdicts that hold their octets, where those of the library borrow them.
-ghost use Rattle.std.specs.Prelude.{◌≡◌, ◌≤◌, true, length};
+ghost use Rattle.std.specs.Prelude.{◌≡◌, true, false, MatchOption, MatchResult};
+ghost use Rattle.characters.specs.Numbers.{refusal_number};
 ghost use Rattle.iolink.specs.Held.{can_tell, held_order, held_reply, held_verdict};
 ghost use Rattle.isdu.specs.Order.{can_ask, order_view};
 ghost use Rattle.isdu.specs.Reply.{can_answer, reply_view, verdict_view};
-ghost use Rattle.octets.specs.Octets.{octets};
 
+use characters::refusal::Refusal;
 use isdu::order::Order;
 use isdu::reply::{Reply, Verdict};
 use octets::Octets;
@@ -39,20 +40,26 @@ pub enum HeldVerdict {
 }
 
 impl HeldOrder {
-    pub fn of(order: &Order<'_>) -> HeldOrder
-        requires { can_ask (order_view order.now) ≡ true }
-        ensures { held_order result ≡ order_view order.now }
+    /// The order with octets of its own. A write of no octets, or of more than 232, is refused.
+    pub fn of(order: &Order<'_>) -> Result<HeldOrder, Refusal>
+        ensures { MatchResult result (λ h. (can_ask (order_view order.now) ≡ true) × (held_order h ≡ order_view order.now)) (λ e. (can_ask (order_view order.now) ≡ false) × (refusal_number e ≡ 9)) }
     {
         match order {
-            Order::Read { address } => HeldOrder::Read { address: *address },
-            Order::Write { address, data } => HeldOrder::Write {
-                address: *address,
-                data: held(data),
+            Order::Read { address } => Ok(HeldOrder::Read { address: *address }),
+            Order::Write { data: [], .. } => Err(Refusal::WrongDataCount),
+            Order::Write { address, data } => match Octets::from_slice(data) {
+                Some(data) => Ok(HeldOrder::Write {
+                    address: *address,
+                    data,
+                }),
+                None => Err(Refusal::WrongDataCount),
             },
         }
     }
 
-    pub fn as_order(&self) -> Order<'_> {
+    pub fn as_order(&self) -> Order<'_>
+        ensures { order_view result ≡ held_order self.now }
+    {
         match self {
             HeldOrder::Read { address } => Order::Read { address: *address },
             HeldOrder::Write { address, data } => Order::Write {
@@ -64,19 +71,21 @@ impl HeldOrder {
 }
 
 impl HeldReply {
-    pub fn of(reply: &Reply<'_>) -> HeldReply
-        requires { can_answer (reply_view reply.now) ≡ true }
-        ensures { held_reply result ≡ reply_view reply.now }
+    /// The reply with octets of its own. Where a read has more than 232 there is none.
+    pub fn of(reply: &Reply<'_>) -> Option<HeldReply>
+        ensures { MatchOption result (can_answer (reply_view reply.now) ≡ false) (λ h. (can_answer (reply_view reply.now) ≡ true) × (held_reply h ≡ reply_view reply.now)) }
     {
         match reply {
-            Reply::WriteRefused(error) => HeldReply::WriteRefused(*error),
-            Reply::WriteDone => HeldReply::WriteDone,
-            Reply::ReadRefused(error) => HeldReply::ReadRefused(*error),
-            Reply::ReadDone(data) => HeldReply::ReadDone(held(data)),
+            Reply::WriteRefused(error) => Some(HeldReply::WriteRefused(*error)),
+            Reply::WriteDone => Some(HeldReply::WriteDone),
+            Reply::ReadRefused(error) => Some(HeldReply::ReadRefused(*error)),
+            Reply::ReadDone(data) => Some(HeldReply::ReadDone(Octets::from_slice(data)?)),
         }
     }
 
-    pub fn as_reply(&self) -> Reply<'_> {
+    pub fn as_reply(&self) -> Reply<'_>
+        ensures { reply_view result ≡ held_reply self.now }
+    {
         match self {
             HeldReply::WriteRefused(error) => Reply::WriteRefused(*error),
             HeldReply::WriteDone => Reply::WriteDone,
@@ -87,24 +96,14 @@ impl HeldReply {
 }
 
 impl HeldVerdict {
-    pub fn of(verdict: &Verdict<'_>) -> HeldVerdict
-        requires { can_tell (verdict_view verdict.now) ≡ true }
-        ensures { held_verdict result ≡ verdict_view verdict.now }
+    /// The verdict with octets of its own. Where its reply has none there is none.
+    pub fn of(verdict: &Verdict<'_>) -> Option<HeldVerdict>
+        ensures { MatchOption result (can_tell (verdict_view verdict.now) ≡ false) (λ h. (can_tell (verdict_view verdict.now) ≡ true) × (held_verdict h ≡ verdict_view verdict.now)) }
     {
         match verdict {
-            Verdict::GoOn => HeldVerdict::GoOn,
-            Verdict::Broken => HeldVerdict::Broken,
-            Verdict::Complete(reply) => HeldVerdict::Complete(HeldReply::of(reply)),
+            Verdict::GoOn => Some(HeldVerdict::GoOn),
+            Verdict::Broken => Some(HeldVerdict::Broken),
+            Verdict::Complete(reply) => Some(HeldVerdict::Complete(HeldReply::of(reply)?)),
         }
-    }
-}
-
-fn held(data: &[u8]) -> Octets<MOST_DATA>
-    requires { length «data».now ≤ 232 }
-    ensures { octets result ≡ «data».now }
-{
-    match Octets::from_slice(data) {
-        Some(row) => row,
-        None => unreachable(),
     }
 }

@@ -191,7 +191,10 @@ fn request(octets: &[u8]) -> Outcome
     ensures { Asks octets.now result }
 {
     match read_request(octets) {
-        Ok(order) => Outcome::Request(Ok(HeldOrder::of(&order))),
+        Ok(order) => match HeldOrder::of(&order) {
+            Ok(order) => Outcome::Request(Ok(order)),
+            Err(refusal) => Outcome::Refused(refusal),
+        },
         Err(why) => Outcome::Request(Err(why)),
     }
 }
@@ -199,8 +202,10 @@ fn request(octets: &[u8]) -> Outcome
 fn response(service: Service, octets: &[u8]) -> Outcome
     ensures { Judges service octets.now result }
 {
-    let verdict = read_reply(service, octets);
-    Outcome::Response(HeldVerdict::of(&verdict))
+    match HeldVerdict::of(&read_reply(service, octets)) {
+        Some(verdict) => Outcome::Response(verdict),
+        None => unreachable!(),
+    }
 }
 
 // An order to read, which borrows no octets.
