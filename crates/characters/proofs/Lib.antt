@@ -1,5 +1,2 @@
-pub mod Loads
 pub mod OneToOne
-mod Parity
 pub mod Right
-mod Rows

@@ -1,5 +1,5 @@
 -- What it takes for characters to have no fault.
-use Rattle.std.proofs.Common.{◌≡◌, ℕ, suc, ◌%◌, ◌<◌, eqb, List, [], ◌∷◌, length, Some, None, Option, refl, inl, inr, arith, eq-eqb, eqb-true}
+use Rattle.std.proofs.Common.{◌≡◌, ℕ, ◌+◌, ◌%◌, ◌<◌, eqb, List, [], ◌∷◌, length, Some, None, Option, refl, inl, inr, arith, eq-eqb, eqb-true}
 use lib.Count.{ones}
 use Rattle.std.specs.List.{AllByRecursion}
 use Rattle.std.specs.Option.{option_map}
@@ -24,13 +24,13 @@ pub even-all : (i : ℕ) (cs : List ℕ) → odd_from i cs ≡ None → AllByRec
 even-all i [] h = tt
 even-all i (c ∷ cs) h =
     elim (cases_Bool (eqb (ones c % 2) 0)) [
-      | inl e ↦ (eqb-true (ones c % 2) 0 e, even-all (suc i) cs (rw e at h))
+      | inl e ↦ (eqb-true (ones c % 2) 0 e, even-all (i + 1) cs (rw e at h))
       | inr e ↦ (let k : Some i ≡ None = rw e at h in grind arith)
     ]
 
 pub all-even : (i : ℕ) (cs : List ℕ) → AllByRecursion (λ c. ones c % 2 ≡ 0) cs → odd_from i cs ≡ None
 all-even i [] h = refl
-all-even i (c ∷ cs) h = rw (eq-eqb (ones c % 2) 0 h.0) (all-even (suc i) cs h.1)
+all-even i (c ∷ cs) h = rw (eq-eqb (ones c % 2) 0 h.0) (all-even (i + 1) cs h.1)
 
 -- nine bits and an even count of ones: right characters
 pub right : (cs : List ℕ) → AllByRecursion (λ c. c < 512) cs → AllByRecursion (λ c. ones c % 2 ≡ 0) cs → AllByRecursion Char cs
@@ -61,3 +61,7 @@ no-odd cs e = rw e
 
 pub all_right : (cs : List ℕ) → AllByRecursion (λ c. c < 512) cs → first_of (silent cs ∷ odd cs ∷ []) ≡ None → AllByRecursion Char cs
 all_right cs nine h = right cs nine (even-all 0 cs (parity cs (first-none (odd cs) [] (first-none (silent cs) (odd cs ∷ []) h).1).0))
+
+-- characters that are there, none of them odd, have no fault of their own
+pub no-fault : (cs : List ℕ) → 0 < length cs → odd_from 0 cs ≡ None → first_of (silent cs ∷ odd cs ∷ []) ≡ None
+no-fault cs some even = none_first (silent cs) (odd cs ∷ []) (not-silent cs some) (none_first (odd cs) [] (no-odd cs even) refl)

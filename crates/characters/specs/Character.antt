@@ -1,5 +1,6 @@
 -- Characters: an octet in bits 0 to 7, and a bit 8 that makes the count of ones among the nine even.
-use Rattle.std.specs.Prelude.{◌≡◌, ℕ, suc, ◌+◌, ◌*◌, ◌%◌, ◌<◌, cond, List, [], ◌∷◌, length, Some, None, Option, ◌==◌, count_ones, nat_lt}
+use Rattle.std.specs.Prelude.{◌≡◌, ℕ, ◌+◌, ◌*◌, ◌%◌, ◌<◌, cond, Bool, not, List, length, Some, None, Option, ◌==◌, count_ones, nat_lt}
+use Rattle.std.specs.List.{position_from}
 use Rattle.octets.specs.Below.{all_below}
 
 -- The character of an octet, and the octet of a character.
@@ -13,10 +14,12 @@ octet c = c % 256
 abbrev pub Char : ℕ → Type 0
 Char c = (c < 512) × (count_ones c % 2 ≡ 0)
 
+abbrev pub is_odd : ℕ → Bool
+is_odd c = not (count_ones c % 2 == 0)
+
 -- The place of the first character with an odd count of ones, counted from i.
 abbrev pub odd_from : ℕ → List ℕ → Option ℕ
-odd_from i [] = None
-odd_from i (c ∷ cs) = cond (count_ones c % 2 == 0) (odd_from (suc i) cs) (Some i)
+odd_from i cs = position_from is_odd i cs
 
 -- ---- a record of characters
 

@@ -1,6 +1,9 @@
--- The characters that a record holds.
-use Rattle.std.specs.Prelude.{ℕ, List, take}
-use Rattle.characters.specs.declared.Characters.{Characters}
+-- What octets are as characters.
+use Rattle.std.specs.Prelude.{◌≡◌, ℕ, List, map, All}
+use Rattle.characters.specs.Character.{Char, character, octet}
 
-abbrev pub characters : Characters → List ℕ
-characters r = take r.len r.items
+-- Characters that code octets: one for each, a right one, and the octets can be told from them.
+pub record Codes (octets characters : List ℕ) : Type 0 where
+  pub value : characters ≡ map character octets
+  pub back : map octet characters ≡ octets
+  pub right : All Char characters

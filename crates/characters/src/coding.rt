@@ -1,53 +1,63 @@
-ghost use Rattle.std.specs.Prelude.{◌≡◌, ◌<◌, [], ◌∷◌, map, IfOk, Some, None, MatchResult};
-ghost use Rattle.characters.specs.Character.{Char, character, octet};
-ghost use Rattle.characters.specs.Characters.{characters};
+ghost use Rattle.std.specs.Prelude.{◌≡◌, ◌<◌, [], ◌∷◌, map, All, IfOk, OnOk, Some, None, MatchResult};
+ghost use Rattle.characters.specs.Character.{Char, character, octet, odd_from};
+ghost use Rattle.characters.specs.Characters.{Codes};
 ghost use Rattle.characters.specs.Fault.{first_of, odd, silent};
-ghost use Rattle.octets.specs.Octets.{octets};
-ghost use Rattle.std.specs.List.{AllByRecursion};
 
 use super::{Characters, MOST};
 use crate::fault::Fault;
 use octets::Octets;
 
 // The character of an octet: bit 8 makes the count of ones even.
+#[tactic(auto, using(crate::proofs::OneToOne::char))]
 fn to_character(value: u8) -> u16
     ensures value { result ≡ character value }
-    ensures nine { result < 512 }
+    ensures back { octet result ≡ value }
+    ensures right { Char result }
 {
     u16::from(value) + 256 * (value.count_ones() % 2) as u16
 }
 
-impl Characters {
-    /// The characters of octets.
-    pub fn from_octets(row: &Octets<66>) -> Characters
-        ensures value { characters result ≡ map character (octets row.now) }
-        ensures back { map octet (characters result) ≡ octets row.now }
-        ensures right { AllByRecursion Char (characters result) }
-    {
-        let mut coded = Characters::new();
-        let values = row.as_slice();
-        for value in values {
-            coded.push(to_character(*value));
-        }
-        coded
-    }
+// The place of the first character with an odd count of ones.
+fn odd_place(characters: &[u16]) -> Option<usize>
+    ensures { result ≡ odd_from 0 characters.now }
+{
+    characters
+        .iter()
+        .position(|character| character.count_ones() % 2 != 0)
+}
 
+// The octet of a character: its bits 0 to 7.
+fn to_octet(character: u16) -> u8
+    ensures { result ≡ octet character }
+{
+    (character % 256) as u8
+}
+
+/// The characters of octets.
+impl From<&Octets<MOST>> for Characters {
+    ghost from_gives = { λ octets characters. Codes octets.now characters };
+
+    fn from(octets: &Octets<MOST>) -> Characters {
+        Characters {
+            row: octets.map(to_character),
+        }
+    }
+}
+
+impl Characters {
     /// The octets of the characters, if there are any and the count of ones in each is even.
-    pub fn octets(&self) -> Result<Octets<66>, Fault>
-        ensures cases { MatchResult result (λ os. (first_of (silent (characters self.now) ∷ odd (characters self.now) ∷ []) ≡ None) × (octets os ≡ map octet (characters self.now))) (λ f. first_of (silent (characters self.now) ∷ odd (characters self.now) ∷ []) ≡ Some f) }
-        ensures back { IfOk result (λ os. map character (octets os) ≡ characters self.now) }
+    pub fn octets(&self) -> Result<Octets<MOST>, Fault>
+        ensures cases { MatchResult result (λ os. (first_of (silent self.now ∷ odd self.now ∷ []) ≡ None) × (os ≡ map octet self.now)) (λ f. first_of (silent self.now ∷ odd self.now ∷ []) ≡ Some f) }
+        ensures back { IfOk result (λ os. map character os ≡ self.now) }
+        ensures right { OnOk result (All Char self.now) }
     {
         let characters = self.as_slice();
-        if characters.len() == 0 {
+        if characters.is_empty() {
             return Err(Fault::Silence);
         }
-        let mut row = Octets::new();
-        for (place, character) in characters.iter().enumerate() {
-            if character.count_ones() % 2 != 0 {
-                return Err(Fault::Parity(place));
-            }
-            row.push((*character % 256) as u8);
+        match odd_place(characters) {
+            Some(place) => Err(Fault::Parity(place)),
+            None => Ok(self.row.map(to_octet)),
         }
-        Ok(row)
     }
 }

@@ -1,68 +1,64 @@
-ghost use Rattle.std.specs.Prelude.{◌≡◌, ◌<◌, ◌≤◌, [], ◌∷◌, ◌++◌, length, Some, None, MatchResult};
+ghost use Rattle.std.specs.Prelude.{◌≡◌, ◌<◌, ◌≤◌, [], length, All, Some, None, MatchResult};
 ghost use Rattle.characters.specs.Character.{load_refusal};
-ghost use Rattle.characters.specs.Characters.{characters};
 ghost use Rattle.characters.specs.Numbers.{refusal_number};
+ghost use Rattle.octets.specs.Below.{all_below};
 
-use super::{Characters, MOST};
+use super::Characters;
 use crate::refusal::Refusal;
+use octets::Row;
 
 impl Characters {
     /// No characters: silence.
     pub fn new() -> Characters
-        ensures { characters result ≡ [] }
+        ensures { result ≡ [] }
     {
-        Characters {
-            items: [0; MOST],
-            len: 0,
-        }
+        Characters { row: Row::new() }
     }
 
     /// Holds the numbers in place of what it held, if they are characters.
     pub fn load(&mut self, numbers: &[u16]) -> Result<(), Refusal>
-        ensures { MatchResult result (λ _. (load_refusal numbers.now ≡ None) × (characters self.new ≡ numbers.now)) (λ e. (load_refusal numbers.now ≡ Some (refusal_number e)) × (self.new ≡ self.old)) }
+        ensures { MatchResult result (λ _. (load_refusal numbers.now ≡ None) × (self.new ≡ numbers.now)) (λ e. (load_refusal numbers.now ≡ Some (refusal_number e)) × (self.new ≡ self.old)) }
     {
-        *self = Characters::from_numbers(numbers)?;
+        *self = Characters::try_from(numbers)?;
         Ok(())
     }
 
-    pub fn from_numbers(numbers: &[u16]) -> Result<Characters, Refusal>
-        ensures { MatchResult result (λ cs. (load_refusal numbers.now ≡ None) × (characters cs ≡ numbers.now)) (λ e. load_refusal numbers.now ≡ Some (refusal_number e)) }
-    {
-        if numbers.len() > MOST {
-            return Err(Refusal::TooManyCharacters);
-        }
-        let mut loaded = Characters::new();
-        for number in numbers {
-            if *number > 511 {
-                return Err(Refusal::NoCharacter);
-            }
-            loaded.push(*number);
-        }
-        Ok(loaded)
-    }
-
-    // One character more.
-    pub(crate) fn push(&mut self, number: u16)
-        requires room { length (characters self.old) < 66 }
-        requires nine { number < 512 }
-        ensures { characters self.new ≡ characters self.old ++ number ∷ [] }
-    {
-        let at = self.len;
-        self.items[at] = number;
-        self.len = at + 1;
-    }
-
     pub fn as_slice(&self) -> &[u16]
-        ensures value { result.now ≡ characters self.now }
+        ensures value { result.now ≡ self.now }
         ensures bound { length result.now ≤ 66 }
+        ensures nine { All (λ c. c < 512) self.now }
     {
-        &self.items[0..self.len]
+        self.row.as_slice()
     }
 
     pub fn len(&self) -> usize
-        ensures value { result ≡ length (characters self.now) }
+        ensures value { result ≡ length self.now }
         ensures bound { result ≤ 66 }
     {
-        self.as_slice().len()
+        self.row.len()
     }
+}
+
+impl TryFrom<&[u16]> for Characters {
+    type Error = Refusal;
+
+    ghost try_from_gives = { λ numbers r. MatchResult r (λ cs. (load_refusal numbers.now ≡ None) × (cs ≡ numbers.now)) (λ e. load_refusal numbers.now ≡ Some (refusal_number e)) };
+
+    fn try_from(numbers: &[u16]) -> Result<Characters, Refusal> {
+        let Ok(row) = Row::try_from(numbers) else {
+            return Err(Refusal::TooManyCharacters);
+        };
+        if all_characters(numbers) {
+            Ok(Characters { row })
+        } else {
+            Err(Refusal::NoCharacter)
+        }
+    }
+}
+
+// Whether each number has at most nine bits.
+fn all_characters(numbers: &[u16]) -> bool
+    ensures { result ≡ all_below 512 numbers.now }
+{
+    numbers.iter().all(|number| *number < 512)
 }

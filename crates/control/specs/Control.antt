@@ -1,5 +1,5 @@
 -- The control octet: bit 7 is 1 for a read, bits 6 and 5 are the channel, bits 0 to 4 an address or, on the ISDU channel, the flow control.
-use Rattle.std.specs.Prelude.{ℕ, ◌+◌, ◌*◌, ◌/◌, ◌%◌, Bool, true, cond, ◌&&◌, ◌==◌, nat_lt}
+use Rattle.std.specs.Prelude.{◌≡◌, ℕ, ◌+◌, ◌*◌, ◌/◌, ◌%◌, Bool, true, cond, ◌&&◌, ◌==◌, nat_lt}
 use Rattle.control.specs.declared.channel.Access.{Access}
 use Rattle.control.specs.declared.channel.Access.TheVariants.{Read, Write}
 use Rattle.control.specs.declared.channel.Channel.{Channel}
@@ -43,6 +43,12 @@ abbrev pub channel_of : ℕ → Channel
 channel_of o =
     cond (o / 32 % 4 == 0) (Process (o % 32))
     (cond (o / 32 % 4 == 1) (Page (o % 32)) (cond (o / 32 % 4 == 2) (Diagnosis (o % 32)) (Isdu (flow_of (o % 32)))))
+
+-- An octet says an access and a channel: it is theirs, and they are read from it.
+pub record IsControlOctet (octet : ℕ) (a : Access) (ch : Channel) : Type 0 where
+  pub value : octet ≡ control_octet a ch
+  pub access : access_of octet ≡ a
+  pub channel : channel_of octet ≡ ch
 
 -- ---- the values that are a channel: an address has five bits, a COUNT four, and a reserved value is none of the others
 

@@ -2,7 +2,7 @@
 #![tactic(auto)]
 
 ghost use Rattle.std.specs.Prelude.{◌≡◌, ◌<◌, true, false, MatchOption};
-ghost use Rattle.control.specs.Control.{access_of, channel_of, control_octet, flow_of, is_channel};
+ghost use Rattle.control.specs.Control.{IsControlOctet, flow_of, is_channel};
 
 use crate::channel::{Access, Channel, FlowCtrl};
 
@@ -36,11 +36,23 @@ impl Control {
         }
     }
 
-    pub fn from_octet(octet: u8) -> Control
-        ensures access { result.access ≡ access_of octet }
-        ensures channel { result.channel ≡ channel_of octet }
-        ensures back { control_octet result.access result.channel ≡ octet }
+    pub fn access(&self) -> Access
+        ensures { result ≡ self.now.access }
     {
+        self.access
+    }
+
+    pub fn channel(&self) -> Channel
+        ensures { result ≡ self.now.channel }
+    {
+        self.channel
+    }
+}
+
+impl From<u8> for Control {
+    ghost from_gives = { λ octet control. IsControlOctet octet control.access control.channel };
+
+    fn from(octet: u8) -> Control {
         let access = if octet >= 0x80 {
             Access::Read
         } else {
@@ -55,16 +67,17 @@ impl Control {
         };
         Control { access, channel }
     }
+}
 
-    pub fn to_octet(self) -> u8
-        ensures value { result ≡ control_octet self.access self.channel }
-        ensures back { (access_of result ≡ self.access) × (channel_of result ≡ self.channel) }
-    {
-        let access = match self.access {
+impl From<Control> for u8 {
+    ghost from_gives = { λ control octet. IsControlOctet octet control.access control.channel };
+
+    fn from(control: Control) -> u8 {
+        let access = match control.access {
             Access::Read => 0x80,
             Access::Write => 0,
         };
-        let channel = match self.channel {
+        let channel = match control.channel {
             Channel::Process(address) => address,
             Channel::Page(address) => 0x20 + address,
             Channel::Diagnosis(address) => 0x40 + address,
@@ -75,18 +88,6 @@ impl Control {
             Channel::Isdu(FlowCtrl::Reserved(value)) => 0x60 + value,
         };
         access + channel
-    }
-
-    pub fn access(&self) -> Access
-        ensures { result ≡ self.now.access }
-    {
-        self.access
-    }
-
-    pub fn channel(&self) -> Channel
-        ensures { result ≡ self.now.channel }
-    {
-        self.channel
     }
 }
 

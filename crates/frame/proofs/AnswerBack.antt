@@ -2,7 +2,7 @@
 use Rattle.std.proofs.Common.{◌≡◌, ℕ, suc, ◌+◌, ◌*◌, ◌/◌, ◌%◌, ◌<◌, ◌≤◌, Bool, true, false, List, [], ◌∷◌, ◌++◌, map, length, get_or, take, drop, set, None, Ok, sym, refl, ap, ◌∙◌, subst, arith, length-append, length-drop, length-take, take-add}
 use lib.ListN.{length-map}
 use Rattle.std.specs.List.{AllByRecursion}
-use Rattle.std.proofs.ByRecursion.{All-append, All-get_or, All-take}
+use Rattle.std.proofs.ByRecursion.{All-get_or, All-take}
 use Rattle.std.proofs.lemmas.List.{append_assoc, drop_all, drop_at, get_or_at, set_at, set_split, take_at}
 use Rattle.std.proofs.lemmas.Bool.Decides.{nat_tests}
 use Rattle.characters.specs.Character.{octet}
@@ -13,19 +13,11 @@ use Rattle.octets.specs.Octets.{fitted}
 use Rattle.control.specs.declared.channel.Access.{Access}
 use Rattle.frame.proofs.Apart.{apart, turned-nine}
 use Rattle.characters.proofs.OneToOne.{octets-below}
-use Rattle.octets.proofs.Fitted.{fitted-exact, fitted-octets, length-fitted}
+use Rattle.octets.proofs.Fitted.{fitted-exact, length-fitted}
 use Rattle.frame.proofs.Good.{Good, answer-good, good-answer}
 use Rattle.frame.proofs.Sealed.{check-small, good-sealed, octets-sealed, opened, sealed-good}
 
--- Octets.
-pub record Octetful (r : AnswerParts) : Type 0 where
-  pub on_request : AllByRecursion (λ o. o < 256) r.on_request
-  pub inputs : AllByRecursion (λ o. o < 256) r.inputs
-
 -- ---- the octet with flag and mark
-
-status-below : (e i : Bool) → status_bits e i < 256
-status-below e i = grind (arith, nat_tests)
 
 status-clear : (e i : Bool) → status_bits e i % 64 ≡ 0
 status-clear true true = refl
@@ -84,9 +76,9 @@ parts-of n p a od ins v e i lo li he hi =
     let last : get_or (od ++ ins ++ v ∷ []) (k + p) 0 ≡ v = last-at od ins v (k + p) (omega arith) in
     same_parts _ _ _ _ _ _ _ _ front (ap (take p) rest ∙ take_at ins (v ∷ []) p li) (ap (bit 128) last ∙ he) (ap (bit 64) last ∙ hi)
 
-pub answer_back : (n p : ℕ) (a : Access) (r : AnswerParts) → Octetful r → read_answer n p a (answer_message n p a r) ≡ Ok (answer_fit n p a r)
+pub answer_back : (n p : ℕ) (a : Access) (r : AnswerParts) → AllByRecursion (λ o. o < 256) (answer_octets n p a r) → read_answer n p a (answer_message n p a r) ≡ Ok (answer_fit n p a r)
 unfolding answer_message
-answer_back n p a r w =
+answer_back n p a r all =
     let k : ℕ = answered_od a n in
     let od : List ℕ = fitted k r.on_request in
     let ins : List ℕ = fitted p r.inputs in
@@ -95,9 +87,6 @@ answer_back n p a r w =
     let lo : length od ≡ k = length-fitted k r.on_request in
     let li : length ins ≡ p = length-fitted p r.inputs in
     let sum : length od + length ins ≡ k + p = omega arith in
-    let below = status-below r.event r.invalid in
-    let all : AllByRecursion (λ o. o < 256) os =
-    All-append (λ o. o < 256) (od ++ ins) (s ∷ []) (All-append (λ o. o < 256) od ins (fitted-octets k r.on_request w.on_request) (fitted-octets p r.inputs w.inputs)) (below, tt) in
     let last : get_or os (k + p) 0 ≡ s = last-at od ins s (k + p) sum in
     let count : length os ≡ k + p + 1 = length-all od ins s (k + p) sum in
     let clear : get_or os (k + p) 0 % 64 ≡ 0 = ap (λ (x : ℕ). x % 64) last ∙ status-clear r.event r.invalid in

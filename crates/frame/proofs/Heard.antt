@@ -1,6 +1,8 @@
 -- The faults of the characters come before those of the octets.
-use Rattle.std.proofs.Common.{◌≡◌, ℕ, List, [], ◌∷◌, map, Some, None, Option, sym, refl, ap, ◌∙◌, arith}
-use Rattle.characters.specs.Character.{octet}
+use Rattle.std.proofs.Common.{◌≡◌, ℕ, ◌<◌, List, All, [], ◌∷◌, map, Some, None, Option, sym, refl, ap, ◌∙◌, arith}
+use Rattle.std.specs.List.{AllByRecursion}
+use Rattle.std.proofs.lemmas.List.Elements.{All-weaker, recursion_from_All}
+use Rattle.characters.specs.Character.{Char, octet}
 use Rattle.characters.specs.Fault.{first_of, odd, silent}
 use Rattle.characters.specs.declared.fault.Fault.{Fault}
 use Rattle.control.specs.declared.channel.Access.{Access}
@@ -39,3 +41,7 @@ pub answer-octets : (n p : ℕ) (a : Access) (cs os : List ℕ) (o : Option Faul
 unfolding answer_fault
 answer-octets n p a cs os o h e v =
     before (silent cs) (odd cs) (answer_tests n p a (map octet cs)) h ∙ sym (v ∙ ap (λ (l : List ℕ). first_of (answer_tests n p a l)) e)
+
+-- right characters have nine bits
+pub nine : (cs : List ℕ) → All Char cs → AllByRecursion (λ c. c < 512) cs
+nine cs h = recursion_from_All (λ c. c < 512) cs (All-weaker Char (λ c. c < 512) (λ c k. k.0) cs h)

@@ -2,7 +2,7 @@
 use Rattle.std.proofs.Common.{◌≡◌, ℕ, zero, suc, ◌+◌, ◌*◌, ◌/◌, ◌<◌, true, List, [], ◌∷◌, ◌++◌, map, length, get_or, take, drop, None, Ok, sym, refl, ap, ◌∙◌, subst, arith, length-append, length-drop, take-append-drop, length-take}
 use lib.ListN.{length-map}
 use Rattle.std.specs.List.{AllByRecursion}
-use Rattle.std.proofs.ByRecursion.{All-append, All-take}
+use Rattle.std.proofs.ByRecursion.{All-take}
 use Rattle.std.proofs.lemmas.List.{take_at, drop_at}
 use Rattle.characters.specs.Character.{octet}
 use Rattle.frame.specs.Check.{check_at}
@@ -14,47 +14,31 @@ use Rattle.control.specs.declared.channel.Access.{Access}
 use Rattle.control.specs.declared.channel.Channel.{Channel}
 use Rattle.frame.proofs.Apart.{apart, turned-nine}
 use Rattle.characters.proofs.OneToOne.{octets-below}
-use Rattle.control.proofs.Controls.{control-access, control-back, control-below, control-channel}
-use Rattle.octets.proofs.Fitted.{fitted-exact, fitted-octets, length-fitted}
+use Rattle.control.proofs.Controls.{control-access, control-back, control-channel}
+use Rattle.octets.proofs.Fitted.{fitted-exact, length-fitted}
 use Rattle.frame.proofs.Good.{Good, good-master, master-good}
 use Rattle.frame.proofs.Sealed.{check-small, good-sealed, octets-sealed, opened, sealed-good}
 
--- Octets, and a channel that exists.
-pub record Octetful (m : MasterParts) : Type 0 where
-  pub exists : is_channel m.channel ≡ true
-  pub outputs : AllByRecursion (λ o. o < 256) m.outputs
-  pub on_request : AllByRecursion (λ o. o < 256) m.on_request
-
 -- ---- written, then read
-
-octets-of : (kind n q : ℕ) (m : MasterParts) → kind < 4 → Octetful m → AllByRecursion (λ o. o < 256) (master_octets kind n q m)
-octets-of kind n q m h w = (
-  control-below m.access m.channel w.exists,
-  (
-    omega arith,
-    All-append (λ o. o < 256) (fitted q m.outputs) (fitted (sent_od m.access n) m.on_request) (fitted-octets q m.outputs w.outputs) (fitted-octets (sent_od m.access n) m.on_request w.on_request),
-  ),
-)
 
 pub same_parts : (a a' : Access) (ch ch' : Channel) (outs outs' od od' : List ℕ) → a ≡ a' → ch ≡ ch' → outs ≡ outs' → od ≡ od'
     → ◌≡◌ {A = MasterParts} record { access = a; channel = ch; outputs = outs; on_request = od }
     record { access = a'; channel = ch'; outputs = outs'; on_request = od' }
 same_parts a a' ch ch' outs outs' od od' e₁ e₂ e₃ e₄ = rw (e₁, e₂, e₃, e₄)
 
-pub master-back : (kind n q : ℕ) (m : MasterParts) → kind < 4 → Octetful m
+pub master-back : (kind n q : ℕ) (m : MasterParts) → kind < 4 → is_channel m.channel ≡ true → AllByRecursion (λ o. o < 256) (master_octets kind n q m)
     → read_master kind n q (master_message kind n q m) ≡ Ok (master_fit n q m)
 unfolding master_message
-master-back kind n q m h w =
+master-back kind n q m h exists all =
     let s : ℕ = sent_od m.access n in
     let c : ℕ = control_octet m.access m.channel in
     let outs : List ℕ = fitted q m.outputs in
     let od : List ℕ = fitted s m.on_request in
     let os : List ℕ = master_octets kind n q m in
     let small = check-small 1 os in
-    let all = octets-of kind n q m h w in
     let e : map octet (sealed 1 os) ≡ c ∷ (kind * 64 + check_at 1 os) ∷ (outs ++ od) = octets-sealed 1 os all (omega arith) (omega arith) in
     let g : Good (length os) 1 (sealed 1 os) = sealed-good 1 os all (omega arith) (omega arith) in
-    let a : access_of c ≡ m.access = control-access m.access m.channel w.exists in
+    let a : access_of c ≡ m.access = control-access m.access m.channel exists in
     let count : length os ≡ master_count n q (map octet (sealed 1 os)) =
     (let l : length os ≡ 2 + (q + s) = omega (arith, length-append outs od, length-fitted q m.outputs, length-fitted s m.on_request) in l)
     ∙ ap (λ (x : Access). 2 + (q + sent_od x n)) (sym a)
@@ -66,7 +50,7 @@ master-back kind n q m h w =
     ap (λ f. unless f (master_parts q (map octet (sealed 1 os)))) none
     ∙ ap (λ (l : List ℕ). Ok (master_parts q l)) e
     ∙ ap Ok (
-    same_parts _ _ _ _ _ _ _ _ a (control-channel m.access m.channel w.exists) (take_at outs od q (length-fitted q m.outputs)) (drop_at outs od q (length-fitted q m.outputs))
+    same_parts _ _ _ _ _ _ _ _ a (control-channel m.access m.channel exists) (take_at outs od q (length-fitted q m.outputs)) (drop_at outs od q (length-fitted q m.outputs))
     )
 
 -- ---- read, then written

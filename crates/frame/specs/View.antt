@@ -1,7 +1,7 @@
 -- The program's messages and answers as their parts, and what a codec makes of them.
 use Rattle.std.specs.Prelude.{ℕ, List, Ok, Err, Option, Result}
-use Rattle.frame.specs.Message.{MasterParts, AnswerParts, answer_fault, answer_fit, answer_message, master_fault, master_fit, master_message, read_answer, read_master}
-use Rattle.octets.specs.Octets.{octets}
+use Rattle.characters.specs.Fault.{first_of}
+use Rattle.frame.specs.Message.{MasterParts, AnswerParts, answer_fault, answer_fit, answer_message, answer_octets, answer_tests, master_fault, master_fit, master_message, master_octets, master_tests, read_answer, read_master}
 use Rattle.control.specs.declared.channel.Access.{Access}
 use Rattle.frame.specs.declared.codec.Codec.{Codec}
 use Rattle.characters.specs.declared.fault.Fault.{Fault}
@@ -20,12 +20,12 @@ master_view m =
     record {
       access = m.control.access;
       channel = m.control.channel;
-      outputs = octets m.outputs;
-      on_request = octets m.on_request;
+      outputs = m.outputs;
+      on_request = m.on_request;
     }
 
 abbrev pub answer_view : Answer → AnswerParts
-answer_view r = record { on_request = octets r.on_request; inputs = octets r.inputs; event = r.event; invalid = r.invalid }
+answer_view r = record { on_request = r.on_request; inputs = r.inputs; event = r.event; invalid = r.invalid }
 
 abbrev pub heard : {A B : Type 0} → (A → B) → Result A Fault → Result B Fault
 heard view (Ok m) = Ok (view m)
@@ -35,6 +35,13 @@ heard view (Err f) = Err f
 
 abbrev pub sent_by : Codec → MasterParts → List ℕ
 sent_by d m = master_message (kind_bits d.kind) d.lengths.od d.lengths.pd_out m
+
+-- its octets before the check is added, and the first fault of octets
+abbrev pub sent_octets : Codec → MasterParts → List ℕ
+sent_octets d m = master_octets (kind_bits d.kind) d.lengths.od d.lengths.pd_out m
+
+abbrev pub sent_test : Codec → List ℕ → Option Fault
+sent_test d os = first_of (master_tests (kind_bits d.kind) d.lengths.od d.lengths.pd_out os)
 
 abbrev pub sent_fault : Codec → List ℕ → Option Fault
 sent_fault d cs = master_fault (kind_bits d.kind) d.lengths.od d.lengths.pd_out cs
@@ -50,6 +57,12 @@ carried_by d m = master_fit d.lengths.od d.lengths.pd_out m
 
 abbrev pub answered_by : Codec → Access → AnswerParts → List ℕ
 answered_by d a r = answer_message d.lengths.od d.lengths.pd_in a r
+
+abbrev pub answered_octets : Codec → Access → AnswerParts → List ℕ
+answered_octets d a r = answer_octets d.lengths.od d.lengths.pd_in a r
+
+abbrev pub answered_test : Codec → Access → List ℕ → Option Fault
+answered_test d a os = first_of (answer_tests d.lengths.od d.lengths.pd_in a os)
 
 abbrev pub answered_fault : Codec → Access → List ℕ → Option Fault
 answered_fault d a cs = answer_fault d.lengths.od d.lengths.pd_in a cs

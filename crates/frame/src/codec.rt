@@ -8,7 +8,7 @@ mod answer;
 mod master;
 mod seal;
 
-#[derive(Clone, Copy)]
+#[derive(Clone, Copy, PartialEq, Eq, Debug)]
 pub struct Codec {
     lengths: Lengths,
     kind: SequenceType,

@@ -13,12 +13,12 @@ pub enum SequenceType {
     Type2,
 }
 
-impl SequenceType {
-    pub fn bits(self) -> u8
-        ensures value { result ≡ kind_bits self }
-        ensures bound { result < 3 }
-    {
-        match self {
+// Its two bits.
+impl From<SequenceType> for u8 {
+    ghost from_gives = { λ kind bits. (bits ≡ kind_bits kind) × (bits < 3) };
+
+    fn from(kind: SequenceType) -> u8 {
+        match kind {
             SequenceType::Type0 => 0,
             SequenceType::Type1 => 1,
             SequenceType::Type2 => 2,
@@ -27,7 +27,7 @@ impl SequenceType {
 }
 
 /// From the Master to the Device. A read carries no on-request octets.
-#[derive(Clone, Copy)]
+#[derive(Clone, Copy, PartialEq, Eq, Debug)]
 pub struct MasterMessage {
     pub control: Control,
     pub outputs: Octets<32>,
@@ -35,7 +35,7 @@ pub struct MasterMessage {
 }
 
 /// From the Device to the Master. The answer to a write carries no on-request octets.
-#[derive(Clone, Copy)]
+#[derive(Clone, Copy, PartialEq, Eq, Debug)]
 pub struct Answer {
     pub on_request: Octets<32>,
     pub inputs: Octets<32>,

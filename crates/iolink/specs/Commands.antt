@@ -1,7 +1,6 @@
 -- What the commands of a script give, by the rules of the line that is open.
 use Rattle.std.specs.Prelude.{◌≡◌, ℕ, Bool, true, false, List, [], length, Some, None, Ok, Err, vec_items, Option, MatchOption, MatchResult}
 use Rattle.characters.specs.Character.{load_refusal}
-use Rattle.characters.specs.Characters.{characters}
 use Rattle.characters.specs.Numbers.{refusal_number}
 use Rattle.control.specs.declared.Control.{Control}
 use Rattle.control.specs.declared.channel.Access.{Access}
@@ -10,14 +9,13 @@ use Rattle.frame.specs.Message.{AnswerParts, MasterParts, answered_od, sent_od}
 use Rattle.frame.specs.View.{answer_view, answered_by, master_view, received_by, sent_by, taken_by}
 use Rattle.frame.specs.declared.codec.Codec.{Codec}
 use Rattle.frame.specs.declared.message.SequenceType.TheVariants.{Type2}
-use Rattle.isdu.specs.Order.{Order, read, write, can_ask}
+use Rattle.isdu.specs.Order.{Order, read, write, can_ask, held_order}
+use Rattle.isdu.specs.Reply.{held_reply}
 use Rattle.isdu.specs.Request.{request_octets, request_of}
 use Rattle.isdu.specs.Response.{verdict_of}
 use Rattle.isdu.specs.declared.service.Service.{Service}
-use Rattle.iolink.specs.Held.{held_order, held_verdict}
 use Rattle.iolink.specs.declared.outcome.Outcome.{Outcome}
 use Rattle.iolink.specs.declared.outcome.Outcome.TheVariants.{Opened, Refused, Message, Answer, Faulty, Written, Request, Response, Encoded}
-use Rattle.octets.specs.Octets.{octets}
 use Rattle.script.specs.declared.command.Command.{Command}
 use Rattle.script.specs.declared.command.Command.TheVariants.{OpenFrame, Message as ReadMessage, Answer as ReadAnswer, Put, Reply, Request as ReadRequest, Response as ReadResponse, EncodeRead, EncodeWrite}
 use Rattle.script.specs.Lines.{IsCommand}
@@ -68,7 +66,7 @@ Writes cs (Refused e) = ⊥
 Writes cs (Message m) = ⊥
 Writes cs (Answer r) = ⊥
 Writes cs (Faulty g) = ⊥
-Writes cs (Written w) = characters w ≡ cs
+Writes cs (Written w) = w ≡ cs
 Writes cs (Request q) = ⊥
 Writes cs (Response v) = ⊥
 Writes cs (Encoded os) = ⊥
@@ -94,7 +92,7 @@ Judges s os (Answer r) = ⊥
 Judges s os (Faulty g) = ⊥
 Judges s os (Written w) = ⊥
 Judges s os (Request q) = ⊥
-Judges s os (Response v) = held_verdict v ≡ verdict_of s os
+Judges s os (Response v) = MatchResult v (λ h. verdict_of s os ≡ Ok (held_reply h)) (λ e. verdict_of s os ≡ Err e)
 Judges s os (Encoded w) = ⊥
 
 -- `encode`: the request, or the refusal of an order that has none.
@@ -107,7 +105,7 @@ Encodes order (Faulty g) = ⊥
 Encodes order (Written w) = ⊥
 Encodes order (Request q) = ⊥
 Encodes order (Response v) = ⊥
-Encodes order (Encoded os) = (can_ask order ≡ true) × (octets os ≡ request_octets order)
+Encodes order (Encoded os) = (can_ask order ≡ true) × (os ≡ request_octets order)
 
 -- `put` and `reply` take exactly the octets that the line carries.
 abbrev pub PutCounts : Codec → Control → List ℕ → List ℕ → Type 0

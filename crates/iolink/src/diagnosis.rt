@@ -29,7 +29,7 @@ impl Diagnosis {
     pub fn of_message(line: &Codec, record: &Characters, fault: Fault) -> Diagnosis
         ensures { result.fault ≡ fault }
     {
-        let control = Control::from_octet(octet_at(record, 0));
+        let control = Control::from(octet_at(record, 0));
         let demanded = 2 + line.lengths().pd_out() + line.sent(control.access());
         Diagnosis {
             fault,

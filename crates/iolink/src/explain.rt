@@ -1,6 +1,5 @@
 //! What comes of a command, in words.
 use crate::diagnosis::Detail;
-use crate::held::HeldVerdict;
 use crate::orders::{explain_order, explain_reply};
 use crate::outcome::Outcome;
 use characters::Characters;
@@ -10,17 +9,18 @@ use control::channel::{Access, Channel, FlowCtrl};
 use frame::lengths::Lengths;
 use frame::message::{Answer, MasterMessage};
 use isdu::opened::NoIsdu;
+use isdu::reply::NoReply;
 use isdu::request::read_request;
 use std::fmt;
 use text::hex::Hex;
 
 /// An outcome that is shown as indented lines of text.
 #[derive(Clone, Copy)]
-pub struct Explained(pub Outcome);
+pub struct Explained<'a>(pub &'a Outcome);
 
-impl fmt::Display for Explained {
+impl fmt::Display for Explained<'_> {
     fn fmt<W: fmt::Write>(&self, f: &mut fmt::Formatter<W>) -> fmt::Result {
-        match &self.0 {
+        match self.0 {
             Outcome::Opened(lengths) => explain_lengths(f, lengths),
             Outcome::Refused(refusal) => explain_refusal(f, *refusal),
             Outcome::Message(message) => explain_message(f, message),
@@ -29,7 +29,8 @@ impl fmt::Display for Explained {
             Outcome::Written(record) => explain_record(f, record),
             Outcome::Request(Ok(order)) => explain_order(f, "asks", &order.as_order()),
             Outcome::Request(Err(why)) => explain_no_order(f, *why),
-            Outcome::Response(verdict) => explain_verdict(f, verdict),
+            Outcome::Response(Ok(reply)) => explain_reply(f, &reply.as_reply()),
+            Outcome::Response(Err(why)) => explain_no_reply(f, *why),
             Outcome::Encoded(octets) => explain_encoded(f, octets.as_slice()),
         }
     }
@@ -151,12 +152,12 @@ fn explain_no_order<W: fmt::Write>(f: &mut fmt::Formatter<W>, why: NoIsdu) -> fm
     writeln!(f, "    {why}")
 }
 
-fn explain_verdict<W: fmt::Write>(f: &mut fmt::Formatter<W>, verdict: &HeldVerdict) -> fmt::Result {
-    match verdict {
-        HeldVerdict::GoOn => writeln!(f, "    octets are still to come"),
-        HeldVerdict::Broken => writeln!(f, "    no reply of this kind can come of these octets"),
-        HeldVerdict::Complete(reply) => explain_reply(f, &reply.as_reply()),
-    }
+fn explain_no_reply<W: fmt::Write>(f: &mut fmt::Formatter<W>, why: NoReply) -> fmt::Result {
+    let why = match why {
+        NoReply::Incomplete => "octets are still to come",
+        NoReply::Broken => "no reply of this kind can come of these octets",
+    };
+    writeln!(f, "    {why}")
 }
 
 fn explain_encoded<W: fmt::Write>(f: &mut fmt::Formatter<W>, octets: &[u8]) -> fmt::Result {

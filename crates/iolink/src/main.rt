@@ -2,7 +2,6 @@
 #![tactic(auto)]
 
 use crate::explain::Explained;
-use crate::lines::split_line;
 use crate::options::{Options, USAGE};
 use crate::outcome::Outcome;
 use crate::session::Session;
@@ -13,8 +12,6 @@ use std::process::ExitCode;
 
 mod diagnosis;
 mod explain;
-mod held;
-mod lines;
 mod options;
 mod orders;
 mod outcome;
@@ -60,35 +57,29 @@ fn read_script(rt: &HostRuntime, options: &Options) -> anyhow::Result<Vec<u8>> {
 // Runs each line of a script and prints what comes of it.
 fn play(rt: &HostRuntime, script: &[u8], explain: bool) -> anyhow::Result<()> {
     let mut session = Session::new();
-    let mut rest = script;
-    for number in 1..usize::MAX {
-        if rest.len() == 0 {
-            break;
-        }
-        let (line, after) = split_line(rest);
-        rest = after;
+    for (number, line) in (1..usize::MAX).zip(script.split_inclusive(|b| *b == b'\n')) {
+        let line = without_end(line);
         match session.run_line(rt.alloc(), line) {
-            Ok(outcome) => show(rt, line, outcome, explain)?,
+            Ok(Some(outcome)) => show(rt, &outcome, explain)?,
+            // A script's comments head what they speak of.
+            Ok(None) if explain => rt.println(String::from_utf8_lossy(rt.alloc(), line)?)?,
+            Ok(None) => {}
             Err(problem) => println!(rt; "error line {number}: {problem}")?,
         }
     }
     Ok(())
 }
 
-// Prints the outcome of a line. The view for people also has the lines with no command, so that a
-// script's comments head what they speak of.
-fn show(
-    rt: &HostRuntime,
-    line: &[u8],
-    outcome: Option<Outcome>,
-    explain: bool,
-) -> anyhow::Result<()> {
-    let Some(outcome) = outcome else {
-        if explain {
-            rt.println(String::from_utf8_lossy(rt.alloc(), line)?)?;
-        }
-        return Ok(());
-    };
+// A line without its newline, or its carriage return and newline.
+fn without_end(line: &[u8]) -> &[u8] {
+    match line {
+        [front @ .., b'\r', b'\n'] | [front @ .., b'\n'] | [front @ .., b'\r'] => front,
+        _ => line,
+    }
+}
+
+// Prints an outcome, and in the view for people what it means.
+fn show(rt: &HostRuntime, outcome: &Outcome, explain: bool) -> anyhow::Result<()> {
     rt.println(outcome)?;
     if explain {
         rt.print(Explained(outcome))?;

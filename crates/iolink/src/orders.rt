@@ -7,7 +7,7 @@ use text::hex::Hex;
 pub fn explain_order<W: fmt::Write>(
     f: &mut fmt::Formatter<W>,
     label: &str,
-    order: &Order<'_>,
+    order: &Order<&[u8]>,
 ) -> fmt::Result {
     match order {
         Order::Read {
@@ -24,7 +24,10 @@ pub fn explain_order<W: fmt::Write>(
     }
 }
 
-pub fn explain_reply<W: fmt::Write>(f: &mut fmt::Formatter<W>, reply: &Reply<'_>) -> fmt::Result {
+pub fn explain_reply<W: fmt::Write>(
+    f: &mut fmt::Formatter<W>,
+    reply: &Reply<&[u8]>,
+) -> fmt::Result {
     match reply {
         Reply::WriteRefused(error) | Reply::ReadRefused(error) => explain_error(f, *error),
         Reply::WriteDone => writeln!(f, "    reply       written"),

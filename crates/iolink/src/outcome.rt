@@ -1,15 +1,14 @@
 //! What comes of a command, as the transcript prints it.
 use crate::diagnosis::Diagnosis;
-use crate::held::{HeldOrder, HeldVerdict};
 use characters::Characters;
 use characters::fault::{Fault, Layer};
 use characters::refusal::Refusal;
 use frame::lengths::Lengths;
 use frame::message::{Answer, MasterMessage};
-use isdu::MOST;
 use isdu::opened::NoIsdu;
 use isdu::order::Order;
-use isdu::reply::Reply;
+use isdu::reply::{NoReply, Reply};
+use isdu::{MOST, MOST_DATA};
 use octets::Octets;
 use script::mistake::{Mistake, Part};
 use std::fmt;
@@ -25,8 +24,8 @@ pub enum Outcome {
     Answer(Answer),
     Faulty(Diagnosis),
     Written(Characters),
-    Request(Result<HeldOrder, NoIsdu>),
-    Response(HeldVerdict),
+    Request(Result<Order<Octets<MOST_DATA>>, NoIsdu>),
+    Response(Result<Reply<Octets<MOST_DATA>>, NoReply>),
     Encoded(Octets<MOST>),
 }
 
@@ -63,14 +62,15 @@ impl fmt::Display for Outcome {
             Outcome::Written(record) => write!(f, "{}", Chars(record.as_slice())),
             Outcome::Request(Ok(order)) => write_order(f, &order.as_order()),
             Outcome::Request(Err(why)) => write_no_order(f, *why),
-            Outcome::Response(verdict) => write_verdict(f, verdict),
+            Outcome::Response(Ok(reply)) => write_report(f, &reply.as_reply()),
+            Outcome::Response(Err(why)) => write_no_reply(f, *why),
             Outcome::Encoded(octets) => write!(f, "{}", Hex(octets.as_slice())),
         }
     }
 }
 
 fn write_message<W: fmt::Write>(f: &mut fmt::Formatter<W>, message: &MasterMessage) -> fmt::Result {
-    let control = [message.control.to_octet()];
+    let control = [u8::from(message.control)];
     let outputs = Hex(message.outputs.as_slice());
     let on_request = Hex(message.on_request.as_slice());
     write!(f, "good {} {outputs} {on_request}", Hex(&control))
@@ -100,7 +100,7 @@ fn write_fault<W: fmt::Write>(f: &mut fmt::Formatter<W>, fault: Fault) -> fmt::R
     write!(f, "fault {layer} {cause} {number}")
 }
 
-fn write_order<W: fmt::Write>(f: &mut fmt::Formatter<W>, order: &Order<'_>) -> fmt::Result {
+fn write_order<W: fmt::Write>(f: &mut fmt::Formatter<W>, order: &Order<&[u8]>) -> fmt::Result {
     match order {
         Order::Read {
             address: (index, subindex),
@@ -120,15 +120,14 @@ fn write_no_order<W: fmt::Write>(f: &mut fmt::Formatter<W>, why: NoIsdu) -> fmt:
     })
 }
 
-fn write_verdict<W: fmt::Write>(f: &mut fmt::Formatter<W>, verdict: &HeldVerdict) -> fmt::Result {
-    match verdict {
-        HeldVerdict::GoOn => f.write_str("go on"),
-        HeldVerdict::Broken => f.write_str("report broken"),
-        HeldVerdict::Complete(reply) => write_report(f, &reply.as_reply()),
-    }
+fn write_no_reply<W: fmt::Write>(f: &mut fmt::Formatter<W>, why: NoReply) -> fmt::Result {
+    f.write_str(match why {
+        NoReply::Incomplete => "go on",
+        NoReply::Broken => "report broken",
+    })
 }
 
-fn write_report<W: fmt::Write>(f: &mut fmt::Formatter<W>, reply: &Reply<'_>) -> fmt::Result {
+fn write_report<W: fmt::Write>(f: &mut fmt::Formatter<W>, reply: &Reply<&[u8]>) -> fmt::Result {
     match reply {
         Reply::WriteRefused(error) | Reply::ReadRefused(error) => {
             write!(f, "report refused {error:04X}")

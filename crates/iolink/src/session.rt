@@ -2,11 +2,9 @@
 ghost use Rattle.std.specs.Prelude.{◌≡◌, ◌≤◌, length, IfOk, Some, None, MatchResult, OnErr, ◌≢◌};
 ghost use Rattle.iolink.specs.Commands.{Asks, Encodes, Judges, Obeys, Opens, Plays, PutCounts, Receives, ReplyCounts, Takes, Writes, answer_of, message_of};
 ghost use Rattle.frame.specs.View.{answered_by, sent_by};
-ghost use Rattle.isdu.specs.Order.{order_view, read};
-ghost use Rattle.octets.specs.Octets.{octets};
+ghost use Rattle.isdu.specs.Order.{order_view};
 
 use crate::diagnosis::Diagnosis;
-use crate::held::{HeldOrder, HeldVerdict};
 use crate::outcome::{Outcome, Problem};
 use characters::Characters;
 use control::Control;
@@ -90,7 +88,7 @@ impl Session {
             }
             Command::Request { octets } => Ok(request(octets.as_slice())),
             Command::Response { service, octets } => Ok(response(*service, octets.as_slice())),
-            Command::EncodeRead { address } => Ok(encode(&to_read(*address))),
+            Command::EncodeRead { address } => Ok(encode(&Order::Read { address: *address })),
             Command::EncodeWrite { address, octets } => {
                 let order = Order::Write {
                     address: *address,
@@ -127,7 +125,7 @@ impl Session {
 fn message(line: &Codec, numbers: &[u16]) -> Outcome
     ensures { Receives line.now numbers.now result }
 {
-    match Characters::from_numbers(numbers) {
+    match Characters::try_from(numbers) {
         Err(refusal) => Outcome::Refused(refusal),
         Ok(record) => match line.read_message(&record) {
             Ok(message) => Outcome::Message(message),
@@ -139,7 +137,7 @@ fn message(line: &Codec, numbers: &[u16]) -> Outcome
 fn answer(line: &Codec, access: Access, numbers: &[u16]) -> Outcome
     ensures { Takes line.now access numbers.now result }
 {
-    match Characters::from_numbers(numbers) {
+    match Characters::try_from(numbers) {
         Err(refusal) => Outcome::Refused(refusal),
         Ok(record) => match line.read_answer(access, &record) {
             Ok(answer) => Outcome::Answer(answer),
@@ -191,7 +189,7 @@ fn request(octets: &[u8]) -> Outcome
     ensures { Asks octets.now result }
 {
     match read_request(octets) {
-        Ok(order) => match HeldOrder::of(&order) {
+        Ok(order) => match order.held() {
             Ok(order) => Outcome::Request(Ok(order)),
             Err(refusal) => Outcome::Refused(refusal),
         },
@@ -202,20 +200,16 @@ fn request(octets: &[u8]) -> Outcome
 fn response(service: Service, octets: &[u8]) -> Outcome
     ensures { Judges service octets.now result }
 {
-    match HeldVerdict::of(&read_reply(service, octets)) {
-        Some(verdict) => Outcome::Response(verdict),
-        None => unreachable!(),
+    match read_reply(service, octets) {
+        Ok(reply) => match reply.held() {
+            Some(reply) => Outcome::Response(Ok(reply)),
+            None => unreachable!(),
+        },
+        Err(why) => Outcome::Response(Err(why)),
     }
 }
 
-// An order to read, which borrows no octets.
-fn to_read(address: (u16, u8)) -> Order<'static>
-    ensures { order_view result ≡ read address }
-{
-    Order::Read { address }
-}
-
-fn encode(order: &Order<'_>) -> Outcome
+fn encode(order: &Order<&[u8]>) -> Outcome
     ensures { Encodes (order_view order.now) result }
 {
     match write_request(order) {
@@ -227,7 +221,7 @@ fn encode(order: &Order<'_>) -> Outcome
 // Octets of which there are as many as expected, at most 32.
 fn counted(part: Part, given: &[u8], expected: usize) -> Result<Octets<32>, Problem>
     requires { expected ≤ 32 }
-    ensures { MatchResult result (λ row. (octets row ≡ given.now) × (length given.now ≡ expected)) (λ _. length given.now ≢ expected) }
+    ensures { MatchResult result (λ row. (row ≡ given.now) × (length given.now ≡ expected)) (λ _. length given.now ≢ expected) }
 {
     let wrong = Problem::WrongCount {
         part,
@@ -237,8 +231,5 @@ fn counted(part: Part, given: &[u8], expected: usize) -> Result<Octets<32>, Prob
     if given.len() != expected {
         return Err(wrong);
     }
-    match Octets::from_slice(given) {
-        Some(row) => Ok(row),
-        None => Err(wrong),
-    }
+    Octets::try_from(given).map_err(|_| wrong)
 }

@@ -191,6 +191,6 @@ fn shown(alloc: Global, outcome: Option<Outcome>) -> Result<(String, String), Fa
         return Ok((String::new(alloc), String::new(alloc)));
     };
     let printed = format!(in alloc; "{outcome}")?;
-    let explained = format!(in alloc; "{}", Explained(outcome))?;
+    let explained = format!(in alloc; "{}", Explained(&outcome))?;
     Ok((printed, explained))
 }

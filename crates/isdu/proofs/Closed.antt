@@ -1,16 +1,14 @@
 -- Octets that are written as an ISDU are opened as what was written, whole and in parts.
-use Rattle.std.proofs.Common.{◌≡◌, ℕ, zero, suc, ◌+◌, ◌-◌, ◌*◌, ◌/◌, ◌%◌, ◌<◌, ◌≤◌, Bool, true, false, cond, eqb, leb, ◌⊎◌, List, [], ◌∷◌, ◌++◌, length, get_or, take, Ok, Err, refl, ap, ◌∙◌, inl, inr, arith, length-append, le-ltb, lt-ltb, eq-eqb, le-leb}
+use Rattle.std.proofs.Common.{◌≡◌, ℕ, zero, suc, ◌+◌, ◌-◌, ◌*◌, ◌/◌, ◌<◌, ◌≤◌, true, false, eqb, leb, ◌⊎◌, List, [], ◌∷◌, ◌++◌, length, get_or, take, Ok, Err, refl, ap, ◌∙◌, inl, inr, arith, length-append, le-ltb, lt-ltb, eq-eqb, le-leb}
 use lib.Bits.{bit_xor, xor_self}
 use Rattle.std.proofs.lemmas.List.{append_assoc, append-nil, get_or_append_left, length-take, take_at}
 use Rattle.std.proofs.lemmas.List.Sums.{fold_push}
 use Rattle.std.proofs.lemmas.Bool.{cases_lt}
 use Rattle.std.proofs.lemmas.Bool.Decides.{nat_tests}
 use Rattle.isdu.specs.Isdu.{closed, head, isdu, xor_of}
-use Rattle.isdu.specs.Opened.{contents_of, opened, opened_by, whole}
+use Rattle.isdu.specs.Opened.{contents_of, opened}
 use Rattle.isdu.specs.Total.{TotalSoFar, total_of}
-use Rattle.isdu.specs.declared.opened.NoIsdu.TheVariants.{Incomplete, NotWellFormed}
-use Rattle.isdu.specs.declared.total.Total.{Total}
-use Rattle.isdu.specs.declared.total.Total.TheVariants.{Known}
+use Rattle.isdu.specs.declared.opened.NoIsdu.TheVariants.{Incomplete}
 
 pub xor-closed : (os : List ℕ) → xor_of (closed os) ≡ 0
 xor-closed os = fold_push bit_xor 0 os (xor_of os) ∙ xor_self (xor_of os)
@@ -25,32 +23,20 @@ head-long s n h = rw (le-ltb n 14 h)
 
 -- the first octet says the I-Service
 pub first-service : (s n : ℕ) → n ≤ 235 → get_or (head s n) 0 0 / 16 ≡ s
-first-service s n h = go (cases_lt n 14)
-  where
-    go : (n < 14) ⊎ (14 ≤ n) → get_or (head s n) 0 0 / 16 ≡ s
-    go (inl l) = rw (head-short s n l) (omega arith)
-    go (inr l) = rw (head-long s n l) (omega arith)
+first-service s n h = grind (arith, nat_tests)
 
 -- the total is found from the head
-pub total_head : (s n : ℕ) (rest : List ℕ) → n ≤ 235 → total_of (head s n ++ rest) ≡ Known (length (head s n) + n + 1)
-total_head s n rest h = go (cases_lt n 14)
-  where
-    go : (n < 14) ⊎ (14 ≤ n) → total_of (head s n ++ rest) ≡ Known (length (head s n) + n + 1)
-    go (inl l) = rw (head-short s n l) (grind (arith, nat_tests))
-    go (inr l) = rw (head-long s n l) (grind (arith, nat_tests))
+pub total_head : (s n : ℕ) (rest : List ℕ) → n ≤ 235 → total_of (head s n ++ rest) ≡ Ok (length (head s n) + n + 1)
+total_head s n rest h = grind (arith, nat_tests)
 
 -- the contents follow the head
 pub contents-head : (s n : ℕ) (os : List ℕ) → n ≤ 235 → contents_of (head s n ++ os) ≡ os
-contents-head s n os h = go (cases_lt n 14)
-  where
-    go : (n < 14) ⊎ (14 ≤ n) → contents_of (head s n ++ os) ≡ os
-    go (inl l) = rw (head-short s n l) (let e : eqb ((s * 16 + (n + 2)) % 16) 1 ≡ false = grind (arith, nat_tests) in rw e)
-    go (inr l) = rw (head-long s n l) (let e : eqb ((s * 16 + 1) % 16) 1 ≡ true = grind (arith, nat_tests) in rw e)
+contents-head s n os h = grind (arith, nat_tests)
 
 -- ---- the whole
 
 -- front octets that say the total with the last octet, and whatever follows
-opened-closed : (front more : List ℕ) → 1 ≤ length front → total_of (closed front ++ more) ≡ Known (suc (length front))
+opened-closed : (front more : List ℕ) → 1 ≤ length front → total_of (closed front ++ more) ≡ Ok (suc (length front))
     → opened (closed front ++ more) ≡ Ok (get_or front 0 0, contents_of front)
 opened-closed front more some total =
     let t : ℕ = suc (length front) in
@@ -62,18 +48,10 @@ opened-closed front more some total =
     let split : os ≡ front ++ (xor_of front ∷ more) = append_assoc front (xor_of front ∷ []) more in
     let before : take (t - 1) os ≡ front = ap (take (t - 1)) split ∙ take_at front (xor_of front ∷ more) (t - 1) (omega arith) in
     let first : get_or os 0 0 ≡ get_or front 0 0 = ap (λ (l : List ℕ). get_or l 0 0) split ∙ get_or_append_left front (xor_of front ∷ more) 0 0 (omega arith) in
-    ap (λ (x : Total). opened_by x os) total
-    ∙ ap (λ (b : Bool). cond b (whole t os) (Err Incomplete)) there
-    ∙ ap (λ (b : Bool). cond b (Ok (get_or os 0 0, contents_of (take (t - 1) os))) (Err NotWellFormed)) zero_xor
-    ∙ ap (λ (x : ℕ). Ok (x, contents_of (take (t - 1) os))) first
-    ∙ ap (λ (l : List ℕ). Ok (get_or front 0 0, contents_of l)) before
+    rw (total, there, zero_xor, first, before)
 
 pub length-head : (s n : ℕ) → (1 ≤ length (head s n)) × (length (head s n) ≤ 2)
-length-head s n = go (cases_lt n 14)
-  where
-    go : (n < 14) ⊎ (14 ≤ n) → (1 ≤ length (head s n)) × (length (head s n) ≤ 2)
-    go (inl l) = rw (head-short s n l) (omega arith, omega arith)
-    go (inr l) = rw (head-long s n l) (omega arith, omega arith)
+length-head s n = grind (arith, nat_tests)
 
 pub length-isdu : (s : ℕ) (c : List ℕ) → length (isdu s c) ≡ length (head s (length c)) + length c + 1
 length-isdu s c = length-append (head s (length c) ++ c) (xor_of (head s (length c) ++ c) ∷ []) ∙ ap (λ k. k + 1) (length-append (head s (length c)) c)
@@ -90,8 +68,8 @@ opened-isdu s c more h =
     let some : 1 ≤ length hd = (length-head s (length c)).0 in
     let n : length (hd ++ c) ≡ length hd + length c = length-append hd c in
     let k : length hd + length c + 1 ≡ suc (length (hd ++ c)) = omega arith in
-    let total : total_of (isdu s c ++ more) ≡ Known (suc (length (hd ++ c))) =
-    ap total_of (isdu-split s c more) ∙ total_head s (length c) (c ++ (xor_of (hd ++ c) ∷ more)) h ∙ ap Known k in
+    let total : total_of (isdu s c ++ more) ≡ Ok (suc (length (hd ++ c))) =
+    ap total_of (isdu-split s c more) ∙ total_head s (length c) (c ++ (xor_of (hd ++ c) ∷ more)) h ∙ ap Ok k in
     opened-closed (hd ++ c) more (omega arith) total
     ∙ ap (λ (x : ℕ). Ok (x, contents_of (hd ++ c))) (get_or_append_left hd c 0 0 some)
     ∙ ap (λ (l : List ℕ). Ok (get_or hd 0 0, l)) (contents-head s (length c) c h)

@@ -1,9 +1,10 @@
 -- Octets cut into pieces of n, and joined again.
-use Rattle.std.proofs.Common.{◌≡◌, ℕ, zero, suc, ◌+◌, ◌*◌, ◌/◌, ◌%◌, ◌<◌, ◌≤◌, cond, eqb, ◌⊎◌, List, ◌++◌, length, drop, sym, ap, ◌∙◌, inl, inr, add-zero, mul-le-mul_right, mod-lt, suc-mul, add-mul, one-mul, div-add-mod', zero-mul, arith}
+use Rattle.std.proofs.Common.{◌≡◌, ℕ, min, zero, suc, ◌+◌, ◌*◌, ◌/◌, ◌%◌, ◌<◌, ◌≤◌, List, ◌++◌, length, drop, sym, ap, ◌∙◌, mul-le-mul_right, suc-mul, zero-mul, arith}
+use Rattle.std.proofs.lemmas.Bool.Decides.{nat_tests}
+use Rattle.std.proofs.lemmas.Grind.{div_ceil_times}
 use Rattle.octets.specs.Octets.{fitted}
 use Rattle.octets.proofs.Fitted.{fitted-add, fitted-cut, fitted-filled}
 use Rattle.std.proofs.lemmas.List.{length-drop}
-use Rattle.std.proofs.lemmas.Bool.{cases_eq, eq-eqb, ne_eqb}
 use Rattle.isdu.specs.Pieces.{Pieced, first_pieces, piece_at, piece_count}
 
 -- Rounded up: the pieces hold the octets, and one piece fewer does not.
@@ -12,24 +13,10 @@ record Rounded (n count k : ℕ) : Type 0 where
   least : (i : ℕ) → i < k → i * n < count
 
 rounded : (n count : ℕ) → 0 < n → Rounded n count (piece_count n count)
-rounded n count some = rw (ne_eqb n 0 (λ e. omega arith)) (go (cases_eq (count % n) 0))
-  where
-    parts : count / n * n + count % n ≡ count
-    parts = div-add-mod' count n
-
-    few : count % n < n
-    few = mod-lt count some
-
-    go : (count % n ≡ 0) ⊎ (count % n ≡ 0 → ⊥) → Rounded n count (count / n + cond (eqb (count % n) 0) 0 1)
-    go (inl e) =
-        rw (eq-eqb _ 0 e, add-zero (count / n))
-        (record { holds = omega arith; least = λ i l. omega (arith, mul-le-mul_right n l, suc-mul i n) })
-    go (inr off) =
-        rw (ne_eqb _ 0 off)
-        (record {
-          holds = omega (arith, add-mul (count / n) 1 n, one-mul n);
-          least = λ i l. let m : i ≤ count / n = omega arith in omega (arith, mul-le-mul_right n m);
-        })
+rounded n count some =
+    let e : piece_count n count ≡ count / n + min 1 (count % n) = grind (arith, nat_tests) in
+    let t = div_ceil_times count n some in
+    rw e (record { holds = t.0; least = λ i l. omega (arith, t.1, mul-le-mul_right n l, suc-mul i n) })
 
 -- the first pieces are the octets up to them, filled up
 pub first_pieces-fitted : (n k : ℕ) (os : List ℕ) → first_pieces n k os ≡ fitted (k * n) os

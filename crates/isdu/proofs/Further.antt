@@ -1,5 +1,5 @@
 -- What follows octets that are there whole changes nothing.
-use Rattle.std.proofs.Common.{◌≡◌, ℕ, ◌-◌, ◌%◌, ◌≤◌, true, false, eqb, leb, ◌⊎◌, List, [], ◌∷◌, ◌++◌, length, get_or, take, Err, sym, refl, ap, ◌∙◌, inl, inr, arith, length-append}
+use Rattle.std.proofs.Common.{◌≡◌, ℕ, ◌-◌, ◌≤◌, true, false, leb, ◌⊎◌, List, [], ◌∷◌, ◌++◌, length, get_or, take, Ok, Err, Result, sym, refl, ap, ◌∙◌, inl, inr, arith, length-append}
 use Rattle.std.proofs.lemmas.List.{get_or_append_left, take-append-le}
 use Rattle.std.proofs.lemmas.Bool.{cases_Bool, le-leb, leb-true}
 use Rattle.std.proofs.lemmas.Bool.Decides.{nat_tests}
@@ -9,27 +9,23 @@ use Rattle.isdu.specs.Total.{total_of}
 use Rattle.isdu.specs.declared.opened.NoIsdu.TheVariants.{Incomplete}
 use Rattle.isdu.specs.declared.service.Service.{Service}
 use Rattle.isdu.specs.declared.service.Service.TheVariants.{Read, Write}
-use Rattle.isdu.specs.declared.total.Total.{Total}
-use Rattle.isdu.specs.declared.total.Total.TheVariants.{Unknown, Bad, Known}
+use Rattle.isdu.specs.declared.total.NoTotal.{NoTotal}
+use Rattle.isdu.specs.declared.total.NoTotal.TheVariants.{Unknown, Bad}
 
-pub total-more : (os more : List ℕ) → (total_of os ≡ Unknown) ⊎ (total_of (os ++ more) ≡ total_of os)
+pub total-more : (os more : List ℕ) → (total_of os ≡ Err Unknown) ⊎ (total_of (os ++ more) ≡ total_of os)
 total-more [] more = inl refl
-total-more (a ∷ []) more = go (cases_Bool (eqb (a % 16) 1))
-  where
-    go : (eqb (a % 16) 1 ≡ true) ⊎ (eqb (a % 16) 1 ≡ false) → (total_of (a ∷ []) ≡ Unknown) ⊎ (total_of (a ∷ more) ≡ total_of (a ∷ []))
-    go (inl e) = inl (grind (arith, nat_tests))
-    go (inr e) = inr (rw e)
+total-more (a ∷ []) more = grind (arith, nat_tests)
 total-more (a ∷ b ∷ os) more = inr refl
 
-known_more : (os more : List ℕ) (t : ℕ) → total_of os ≡ Known t → (leb t (length os) ≡ false) ⊎ (opened_by (Known t) (os ++ more) ≡ opened_by (Known t) os)
+known_more : (os more : List ℕ) (t : ℕ) → total_of os ≡ Ok t → (leb t (length os) ≡ false) ⊎ (opened_by (Ok t) (os ++ more) ≡ opened_by (Ok t) os)
 known_more os more t e = go (cases_Bool (leb t (length os))) (total-some os t e)
   where
-    total-some : (xs : List ℕ) (n : ℕ) → total_of xs ≡ Known n → 1 ≤ length xs
+    total-some : (xs : List ℕ) (n : ℕ) → total_of xs ≡ Ok n → 1 ≤ length xs
     total-some [] n h = absurd (let z : ⊥ = grind arith in z)
     total-some (a ∷ xs) n h = omega arith
 
     go : (leb t (length os) ≡ true) ⊎ (leb t (length os) ≡ false) → 1 ≤ length os
-        → (leb t (length os) ≡ false) ⊎ (opened_by (Known t) (os ++ more) ≡ opened_by (Known t) os)
+        → (leb t (length os) ≡ false) ⊎ (opened_by (Ok t) (os ++ more) ≡ opened_by (Ok t) os)
     go (inr off) some = inl off
     go (inl there) some =
         let l : t ≤ length os = leb-true _ _ there in
@@ -43,16 +39,16 @@ known_more os more t e = go (cases_Bool (leb t (length os))) (total-some os t e)
 pub opened-more : (os more : List ℕ) → (opened os ≡ Err Incomplete) ⊎ (opened (os ++ more) ≡ opened os)
 opened-more os more = by_total (total_of os) refl (total-more os more)
   where
-    by_total : (total : Total) → total_of os ≡ total → (total_of os ≡ Unknown) ⊎ (total_of (os ++ more) ≡ total_of os)
+    by_total : (total : Result ℕ NoTotal) → total_of os ≡ total → (total_of os ≡ Err Unknown) ⊎ (total_of (os ++ more) ≡ total_of os)
         → (opened os ≡ Err Incomplete) ⊎ (opened (os ++ more) ≡ opened os)
     by_total total e (inl u) = inl (rw u)
-    by_total Unknown e (inr s) = inl (rw e)
-    by_total Bad e (inr s) = inr (rw (s, e))
-    by_total (Known t) e (inr s) = go (known_more os more t e)
+    by_total (Err Unknown) e (inr s) = inl (rw e)
+    by_total (Err Bad) e (inr s) = inr (rw (s, e))
+    by_total (Ok t) e (inr s) = go (known_more os more t e)
       where
-        go : (leb t (length os) ≡ false) ⊎ (opened_by (Known t) (os ++ more) ≡ opened_by (Known t) os) → (opened os ≡ Err Incomplete) ⊎ (opened (os ++ more) ≡ opened os)
+        go : (leb t (length os) ≡ false) ⊎ (opened_by (Ok t) (os ++ more) ≡ opened_by (Ok t) os) → (opened os ≡ Err Incomplete) ⊎ (opened (os ++ more) ≡ opened os)
         go (inl off) = inl (rw (e, off))
-        go (inr same) = inr (ap (λ (x : Total). opened_by x (os ++ more)) (s ∙ e) ∙ same ∙ ap (λ (x : Total). opened_by x os) (sym e))
+        go (inr same) = inr (ap (λ (x : Result ℕ NoTotal). opened_by x (os ++ more)) (s ∙ e) ∙ same ∙ ap (λ (x : Result ℕ NoTotal). opened_by x os) (sym e))
 
 -- What is ruled out stays so.
 pub ruled-more : (s : Service) (os more : List ℕ) → ruled_out s os ≡ true → ruled_out s (os ++ more) ≡ true

@@ -1,20 +1,19 @@
 -- While octets are to come, some reply of the kind can still come.
-use Rattle.std.proofs.Common.{◌≡◌, ℕ, zero, suc, ◌+◌, ◌-◌, ◌*◌, ◌/◌, ◌%◌, ◌<◌, ◌≤◌, true, false, eqb, leb, ◌⊎◌, List, [], ◌∷◌, ◌++◌, length, get_or, take, drop, Ok, Err, Result, sym, refl, ap, ◌∙◌, inl, inr, arith}
+use Rattle.std.proofs.Common.{◌≡◌, ℕ, suc, ◌+◌, ◌-◌, ◌*◌, ◌/◌, ◌%◌, ◌<◌, ◌≤◌, true, false, ◌⊎◌, List, [], ◌∷◌, ◌++◌, length, get_or, take, drop, replicate, Ok, Err, sym, refl, ap, ◌∙◌, inl, inr, arith}
 use Rattle.octets.specs.Octets.{fitted}
-use Rattle.octets.proofs.Fitted.{length-fitted}
-use Rattle.std.proofs.lemmas.List.{nil_from_length, take_all, take-append-drop, take-append-le}
-use Rattle.std.proofs.lemmas.Bool.{cases_Bool, le-leb, leb-false}
+use Rattle.octets.proofs.Fitted.{fitted-filled, length-fitted}
+use Rattle.std.proofs.Math.Seq.{take-append_seam}
+use Rattle.std.proofs.lemmas.List.{append_assoc, nil_from_length, take_all, take-append-drop}
+use Rattle.std.proofs.lemmas.Bool.{le-leb}
 use Rattle.std.proofs.lemmas.Bool.Decides.{nat_tests}
 use Rattle.isdu.specs.Isdu.{closed, head, xor_of}
-use Rattle.isdu.specs.Opened.{contents_of, opened, opened_by}
+use Rattle.isdu.specs.Opened.{opened, opened_by}
 use Rattle.isdu.specs.Reply.{Reply, answers, can_answer, write_refused, write_done, read_refused, read_done}
 use Rattle.isdu.specs.Response.{Hopeful, long_head, reply_octets, ruled_out}
 use Rattle.isdu.specs.Total.{total_of}
-use Rattle.isdu.specs.declared.opened.NoIsdu.{NoIsdu}
-use Rattle.isdu.specs.declared.opened.NoIsdu.TheVariants.{Incomplete, NotWellFormed}
+use Rattle.isdu.specs.declared.opened.NoIsdu.TheVariants.{Incomplete}
 use Rattle.isdu.specs.declared.service.Service.{Service}
 use Rattle.isdu.specs.declared.service.Service.TheVariants.{Read, Write}
-use Rattle.isdu.specs.declared.total.Total.TheVariants.{Known}
 use Rattle.isdu.proofs.Closed.{head-long, head-short}
 use Rattle.isdu.proofs.Reopened.{Small}
 
@@ -29,27 +28,13 @@ begun os s r kind can e =
       comes = record { kind = kind; can = can; begins = ap (take (length (reply_octets r))) all ∙ take_all (length (reply_octets r)) (reply_octets r) (omega arith) };
     }
 
-incomplete-says : (os : List ℕ) (t : ℕ) → total_of os ≡ Known t → opened os ≡ Err Incomplete → length os < t
-incomplete-says os t e h = go (cases_Bool (leb t (length os))) (cases_Bool (eqb (xor_of (take t os)) 0))
-  where
-    g : opened_by (Known t) os ≡ Err Incomplete
-    g = rw e at h
-
-    go : (leb t (length os) ≡ true) ⊎ (leb t (length os) ≡ false) → (eqb (xor_of (take t os)) 0 ≡ true) ⊎ (eqb (xor_of (take t os)) 0 ≡ false)
-        → length os < t
-    go (inr off) x = leb-false _ _ off
-    go (inl there) (inl z) =
-        let c : ◌≡◌ {A = Result (ℕ × List ℕ) NoIsdu} (Ok (get_or os 0 0, contents_of (take (t - 1) os))) (Err Incomplete) = rw (there, z) at g in grind arith
-    go (inl there) (inr z) = let c : ◌≡◌ {A = Result (ℕ × List ℕ) NoIsdu} (Err NotWellFormed) (Err Incomplete) = rw (there, z) at g in grind arith
-
-take-fitted : (n : ℕ) (os : List ℕ) → length os ≤ n → take (length os) (fitted n os) ≡ os
-take-fitted n [] l = refl
-take-fitted zero (o ∷ os) l = absurd (let z : ⊥ = omega arith in z)
-take-fitted (suc n) (o ∷ os) l = ap (λ (xs : List ℕ). o ∷ xs) (take-fitted n os (omega arith))
+incomplete-says : (os : List ℕ) (t : ℕ) → total_of os ≡ Ok t → opened os ≡ Err Incomplete → length os < t
+incomplete-says os t e h = let g : opened_by (Ok t) os ≡ Err Incomplete = rw e at h in grind (arith, nat_tests)
 
 -- contents that begin with what came, and the last octet behind them
 taken : (n : ℕ) (os : List ℕ) (x : ℕ) → length os ≤ n → take (length os) (fitted n os ++ x ∷ []) ≡ os
-taken n os x l = take-append-le (length os) (fitted n os) (x ∷ []) (omega (arith, length-fitted n os)) ∙ take-fitted n os l
+taken n os x l =
+    rw (fitted-filled n os l, append_assoc os (replicate (n - length os) 0) (x ∷ [])) (take-append_seam os (replicate (n - length os) 0 ++ x ∷ []))
 
 -- ---- a refusal
 
@@ -87,7 +72,7 @@ hope-write a rest small (inr e) h =
 read_short : (a : ℕ) (rest : List ℕ) → a / 16 ≡ 0xd → 2 ≤ a % 16 → opened (a ∷ rest) ≡ Err Incomplete → Hopeful (a ∷ rest) Read
 unfolding reply_octets
 read_short a rest d l h =
-    let t : total_of (a ∷ rest) ≡ Known (a % 16) = grind (arith, nat_tests) in
+    let t : total_of (a ∷ rest) ≡ Ok (a % 16) = grind (arith, nat_tests) in
     let few : suc (length rest) < a % 16 = incomplete-says (a ∷ rest) (a % 16) t h in
     let c : List ℕ = fitted (a % 16 - 2) rest in
     let n : length (fitted (a % 16 - 2) rest) ≡ a % 16 - 2 = length-fitted (a % 16 - 2) rest in
@@ -113,7 +98,7 @@ read-long [] fits h = begun (0xd1 ∷ []) Read (read_done (fitted 14 [])) refl r
 read-long (t ∷ rest) fits h =
     let low : 17 ≤ t = grind (arith, nat_tests) in
     let high : t ≤ 235 = grind (arith, nat_tests) in
-    let total : total_of (0xd1 ∷ t ∷ rest) ≡ Known t = grind (arith, nat_tests) in
+    let total : total_of (0xd1 ∷ t ∷ rest) ≡ Ok t = grind (arith, nat_tests) in
     let few : suc (suc (length rest)) < t = incomplete-says (0xd1 ∷ t ∷ rest) t total h in
     long-begun t rest low high (omega arith)
 

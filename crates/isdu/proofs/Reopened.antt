@@ -1,6 +1,7 @@
 -- Octets that are opened begin with the ISDU that their parts are written as.
 use Rattle.std.proofs.Common.{◌≡◌, ℕ, ◌+◌, ◌-◌, ◌/◌, ◌%◌, ◌<◌, ◌≤◌, true, false, eqb, leb, ◌⊎◌, List, [], ◌∷◌, ◌++◌, length, get_or, take, drop, Ok, Err, Result, sym, refl, ap, ◌∙◌, inl, inr, arith, eq-eqb}
 use lib.Bits.{bit_xor, xor_assoc, xor_self, xor_zero_l, xor_zero_r}
+use Rattle.std.proofs.Math.Seq.{drop-cons}
 use Rattle.std.proofs.lemmas.List.{append_assoc, get_or-append-add, get_or_append_left, get_or_past, get_or-take, length-drop, length-take, take-append-drop, take_more}
 use Rattle.std.proofs.lemmas.List.Sums.{fold_push}
 use Rattle.std.proofs.lemmas.Bool.{cases_Bool, cases_lt, eqb-true, leb-true}
@@ -10,8 +11,7 @@ use Rattle.isdu.specs.Opened.{contents_of, head_count, opened, opened_by}
 use Rattle.isdu.specs.Total.{total_of}
 use Rattle.isdu.specs.declared.opened.NoIsdu.{NoIsdu}
 use Rattle.isdu.specs.declared.opened.NoIsdu.TheVariants.{Incomplete, NotWellFormed}
-use Rattle.isdu.specs.declared.total.Total.{Total}
-use Rattle.isdu.specs.declared.total.Total.TheVariants.{Unknown, Bad, Known}
+use Rattle.isdu.specs.declared.total.NoTotal.{NoTotal}
 use Rattle.isdu.proofs.Closed.{head-long, head-short, length-isdu}
 
 -- the octet that makes an exclusive or zero is the exclusive or
@@ -27,21 +27,12 @@ closed-by os n l z =
     m ∙ ap (λ (x : ℕ). take n os ++ x ∷ []) (xor_same _ _ e)
 
 -- What a known total says of the first octets.
-pub total-says : (os : List ℕ) (t : ℕ) → total_of os ≡ Known t
+pub total-says : (os : List ℕ) (t : ℕ) → total_of os ≡ Ok t
     → ((get_or os 0 0 % 16 ≡ t) × (2 ≤ t) × (t ≤ 15) × (1 ≤ length os))
     ⊎ ((get_or os 0 0 % 16 ≡ 1) × (get_or os 1 0 ≡ t) × (17 ≤ t) × (t ≤ 238) × (2 ≤ length os))
 total-says [] t e = grind arith
 total-says (a ∷ []) t e = inl (grind (arith, nat_tests))
 total-says (a ∷ b ∷ os) t e = grind (arith, nat_tests)
-
-one_split : (f : List ℕ) → 1 ≤ length f → f ≡ get_or f 0 0 ∷ drop 1 f
-one_split [] l = absurd (let z : ⊥ = omega arith in z)
-one_split (a ∷ f) l = refl
-
-two-split : (f : List ℕ) → 2 ≤ length f → f ≡ get_or f 0 0 ∷ get_or f 1 0 ∷ drop 2 f
-two-split [] l = absurd (let z : ⊥ = omega arith in z)
-two-split (a ∷ []) l = absurd (let z : ⊥ = omega arith in z)
-two-split (a ∷ b ∷ f) l = refl
 
 -- Octets before the last, by a total of their own count.
 front-short : (f : List ℕ) (a t : ℕ) → get_or f 0 0 ≡ a → a % 16 ≡ t → 2 ≤ t → t ≤ 15 → length f ≡ t - 1
@@ -51,7 +42,7 @@ front-short f a t first length16 low high count =
     let n : length (drop 1 f) ≡ t - 2 = length-drop 1 f ∙ omega arith in
     let h : head (a / 16) (length (drop 1 f)) ≡ a ∷ [] =
     head-short (a / 16) (length (drop 1 f)) (omega arith) ∙ ap (λ (x : ℕ). x ∷ []) (omega arith) in
-    rw c (rw h (one_split f (omega arith) ∙ ap (λ (x : ℕ). x ∷ drop 1 f) first))
+    rw c (rw h (drop-cons f 0 0 (omega arith) ∙ ap (λ (x : ℕ). x ∷ drop 1 f) first))
 
 front_long : (f : List ℕ) (a t : ℕ) → get_or f 0 0 ≡ a → get_or f 1 0 ≡ t → a % 16 ≡ 1 → 17 ≤ t → t ≤ 238 → length f ≡ t - 1
     → f ≡ head (a / 16) (length (contents_of f)) ++ contents_of f
@@ -60,7 +51,7 @@ front_long f a t first second length16 low high count =
     let n : length (drop 2 f) ≡ t - 3 = length-drop 2 f ∙ omega arith in
     let h : head (a / 16) (length (drop 2 f)) ≡ a ∷ t ∷ [] =
     head-long (a / 16) (length (drop 2 f)) (omega arith) ∙ ap (λ (x : ℕ). x ∷ (length (drop 2 f) + 3) ∷ []) (omega arith) ∙ ap (λ (x : ℕ). a ∷ x ∷ []) (omega arith) in
-    rw c (rw h (two-split f (omega arith) ∙ ap (λ (x : ℕ). x ∷ get_or f 1 0 ∷ drop 2 f) first ∙ ap (λ (x : ℕ). a ∷ x ∷ drop 2 f) second))
+    rw c (rw h (drop-cons f 0 0 (omega arith) ∙ ap (λ (l : List ℕ). get_or f 0 0 ∷ l) (drop-cons f 1 0 (omega arith)) ∙ ap (λ (x : ℕ). x ∷ get_or f 1 0 ∷ drop 2 f) first ∙ ap (λ (x : ℕ). a ∷ x ∷ drop 2 f) second))
 
 few-contents : (f : List ℕ) → length f ≤ 235 → length (contents_of f) ≤ 235
 few-contents f l = omega (arith, length-drop (head_count f) f)
@@ -75,7 +66,7 @@ pub record Reopened (os : List ℕ) (a : ℕ) (c : List ℕ) : Type 0 where
   pub begins : Begins os (isdu (a / 16) c)
 
 -- all octets are there, and their exclusive or is zero
-whole-reopened : (os : List ℕ) (t : ℕ) → total_of os ≡ Known t → t ≤ length os → xor_of (take t os) ≡ 0
+whole-reopened : (os : List ℕ) (t : ℕ) → total_of os ≡ Ok t → t ≤ length os → xor_of (take t os) ≡ 0
     → Reopened os (get_or os 0 0) (contents_of (take (t - 1) os))
 whole-reopened os t total there z = go (total-says os t total)
   where
@@ -110,10 +101,9 @@ whole-reopened os t total there z = go (total-says os t total)
         result l s.3 (front_long (take (t - 1) os) (get_or os 0 0) t first second s.0 s.2 s.3 (count l))
         (long-contents (take (t - 1) os) (ap (λ x. x % 16) first ∙ s.0) (omega (arith, count l)))
 
-by_total : (os : List ℕ) (a : ℕ) (c : List ℕ) (total : Total) → total_of os ≡ total → opened_by total os ≡ Ok (a, c) → Reopened os a c
-by_total os a c Unknown e h = grind arith
-by_total os a c Bad e h = grind arith
-by_total os a c (Known t) e h = go (cases_Bool (leb t (length os))) (cases_Bool (eqb (xor_of (take t os)) 0))
+by_total : (os : List ℕ) (a : ℕ) (c : List ℕ) (total : Result ℕ NoTotal) → total_of os ≡ total → opened_by total os ≡ Ok (a, c) → Reopened os a c
+by_total os a c (Err x) e h = grind arith
+by_total os a c (Ok t) e h = go (cases_Bool (leb t (length os))) (cases_Bool (eqb (xor_of (take t os)) 0))
   where
     go : (leb t (length os) ≡ true) ⊎ (leb t (length os) ≡ false) → (eqb (xor_of (take t os)) 0 ≡ true) ⊎ (eqb (xor_of (take t os)) 0 ≡ false)
         → Reopened os a c

@@ -1,16 +1,14 @@
 -- A reply is read as what it was, and a verdict falls exactly when the octets allow no other.
-use Rattle.std.proofs.Common.{◌≡◌, ℕ, zero, suc, ◌+◌, ◌*◌, ◌/◌, ◌%◌, ◌<◌, ◌≤◌, Bool, true, false, cond, leb, ◌⊎◌, List, [], ◌∷◌, ◌++◌, length, get_or, take, drop, IfSome, Some, None, Option, sym, refl, ap, ◌∙◌, subst, inl, inr, arith, MatchOption}
+use Rattle.std.proofs.Common.{◌≡◌, ℕ, zero, suc, ◌+◌, ◌*◌, ◌/◌, ◌%◌, ◌<◌, ◌≤◌, true, false, leb, ◌⊎◌, List, [], ◌∷◌, ◌++◌, length, get_or, take, drop, IfSome, Some, None, Ok, Err, Option, sym, refl, ap, ◌∙◌, subst, inl, inr, arith, MatchOption}
 use Rattle.std.proofs.lemmas.List.{append-nil, take_all}
 use Rattle.std.proofs.lemmas.Bool.{cases_Bool, cases_lt, leb-true}
 use Rattle.std.proofs.lemmas.Bool.Decides.{nat_tests}
-use Rattle.octets.specs.Octets.{octets}
-use Rattle.octets.specs.declared.Octets.{Octets}
 use Rattle.isdu.specs.Isdu.{head, isdu}
-use Rattle.isdu.specs.Opened.{opened}
-use Rattle.isdu.specs.Reply.{Reply, answers, can_answer, write_refused, write_done, read_refused, read_done, go_on, broken, complete}
-use Rattle.isdu.specs.Response.{Brings, Replies, carried, error_octets, error_of, judge, judged, refusing, reply_in, reply_octets, ruled_out, saying, verdict_of}
+use Rattle.isdu.specs.Reply.{Reply, answers, can_answer, write_refused, write_done, read_refused, read_done}
+use Rattle.isdu.specs.Response.{Brings, Replies, carried, error_octets, error_of, refusing, reply_in, reply_octets, ruled_out, saying, verdict_of}
 use Rattle.isdu.specs.Service.{service_at, service_bits, service_of}
 use Rattle.isdu.specs.Total.{TotalSoFar}
+use Rattle.isdu.specs.declared.reply.NoReply.TheVariants.{Incomplete as GoOn}
 use Rattle.isdu.specs.declared.service.IService.{IService}
 use Rattle.isdu.specs.declared.service.IService.TheVariants.{Write as AskWrite, Read as AskRead, WriteRefused, WriteDone, ReadRefused, ReadDone}
 use Rattle.isdu.specs.declared.service.Service.{Service}
@@ -62,23 +60,18 @@ module _ (r : Reply) (can : can_answer r ≡ true) where
   allowed-part : (k : ℕ) → ruled_out (answers r) (take k (isdu (service_bits (saying r)) (carried r))) ≡ false
   allowed-part k = ap (λ (os : List ℕ). ruled_out (answers r) (take k os)) (sym (append-nil (isdu (service_bits (saying r)) (carried r)))) ∙ allowed [] k
 
-  pub reply-back : (more : List ℕ) → verdict_of (answers r) (reply_octets r ++ more) ≡ complete r
+  pub reply-back : (more : List ℕ) → verdict_of (answers r) (reply_octets r ++ more) ≡ Ok r
   unfolding verdict_of reply_octets
   reply-back more =
       let v : IService = saying r in
       let c : List ℕ = carried r in
       let n : length c ≤ 235 = carried-count r can in
       let service : service_of (get_or (head (service_bits v) (length c)) 0 0) ≡ Some v = ap service_at (first-service (service_bits v) (length c) n) ∙ service-back v in
-      ap (λ (b : Bool). cond b broken (judge (answers r) (opened (isdu (service_bits v) c ++ more)))) (allowed_all more)
-      ∙ ap (judge (answers r)) (opened-isdu (service_bits v) c more n)
-      ∙ ap (λ (s : Option IService). judged (reply_in (answers r) s c)) service
-      ∙ ap judged (reply-in r can)
+      rw (allowed_all more, opened-isdu (service_bits v) c more n, service, reply-in r can)
 
-  pub reply-part : (k : ℕ) → k < length (reply_octets r) → verdict_of (answers r) (take k (reply_octets r)) ≡ go_on
+  pub reply-part : (k : ℕ) → k < length (reply_octets r) → verdict_of (answers r) (take k (reply_octets r)) ≡ Err GoOn
   unfolding verdict_of reply_octets
-  reply-part k l =
-      ap (λ (b : Bool). cond b broken (judge (answers r) (opened (take k (isdu (service_bits (saying r)) (carried r)))))) (allowed-part k)
-      ∙ ap (judge (answers r)) (opened-part (service_bits (saying r)) (carried r) k (carried-count r can) l)
+  reply-part k l = rw (allowed-part k, opened-part (service_bits (saying r)) (carried r) k (carried-count r can) l)
 
   reply-total : (k : ℕ) (more : List ℕ) → TotalSoFar (take k (reply_octets r ++ more)) k (length (reply_octets r))
   unfolding reply_octets
@@ -87,7 +80,7 @@ module _ (r : Reply) (can : can_answer r ≡ true) where
   pub brings : Brings (reply_octets r) r
   brings = record { whole = reply-back; part = reply-part; total = reply-total }
 
-pub replies-read : (os : List ℕ) (s : Service) (r : Reply) → Replies os s r → verdict_of s os ≡ complete r
+pub replies-read : (os : List ℕ) (s : Service) (r : Reply) → Replies os s r → verdict_of s os ≡ Ok r
 replies-read os s r a =
     ap (λ (x : Service). verdict_of x os) (sym a.kind)
     ∙ ap (verdict_of (answers r)) (whole_of os (reply_octets r) a.begins)
@@ -147,13 +140,7 @@ said Write ReadDone c r small h = grind arith
 
 -- ---- what the writer owes, by what it answers
 
-abbrev Written : Reply → List ℕ → Option (Octets 238) → Type 0
-Written r os w = MatchOption w (can_answer r ≡ false) (λ x. (can_answer r ≡ true) × (octets x ≡ os))
-
-pub written-value : (r : Reply) (w : Option (Octets 238)) → Written r (isdu (service_bits (saying r)) (carried r)) w → Written r (reply_octets r) w
-unfolding reply_octets
-written-value r w e = e
-
-pub written_back : (r : Reply) (w : Option (Octets 238)) → Written r (reply_octets r) w → IfSome w (λ x. Brings (octets x) r)
-written_back r None e = tt
-written_back r (Some x) e = subst (λ (os : List ℕ). Brings os r) (sym e.1) (brings r e.0)
+pub brings-written : (r : Reply) (w : Option (List ℕ)) → MatchOption w (can_answer r ≡ false) (λ x. (can_answer r ≡ true) × (x ≡ reply_octets r))
+    → IfSome w (λ x. Brings x r)
+brings-written r None e = tt
+brings-written r (Some x) e = subst (λ (os : List ℕ). Brings os r) (sym e.1) (brings r e.0)

@@ -1,18 +1,13 @@
 -- A request in any form is read as its order, and what is read as an order is its request in some form.
-use Rattle.std.proofs.Common.{◌≡◌, ℕ, ◌+◌, ◌*◌, ◌/◌, ◌%◌, ◌<◌, ◌≤◌, true, false, ◌⊎◌, List, [], ◌∷◌, ◌++◌, length, get_or, take, drop, IfOk, IfErr, Some, None, Ok, Err, Option, Result, sym, refl, ap, ◌∙◌, subst, inl, inr, arith, length-append, MatchResult}
+use Rattle.std.proofs.Common.{◌≡◌, ℕ, ◌+◌, ◌*◌, ◌/◌, ◌%◌, ◌<◌, ◌≤◌, true, false, ◌⊎◌, List, [], ◌∷◌, ◌++◌, length, get_or, take, drop, Some, None, Ok, Err, Option, Result, sym, refl, ap, ◌∙◌, subst, inl, inr, arith, length-append}
 use Rattle.std.proofs.lemmas.Bool.{and_parts, cases_Bool, eqb-true, leb-true}
 use Rattle.std.proofs.lemmas.Bool.Decides.{nat_tests}
-use Rattle.octets.specs.Octets.{octets}
-use Rattle.octets.specs.declared.Octets.{Octets}
-use Rattle.characters.specs.Numbers.{refusal_number}
-use Rattle.characters.specs.declared.refusal.Refusal.{Refusal}
 use Rattle.isdu.specs.Isdu.{Begins, head, isdu}
 use Rattle.isdu.specs.Opened.{opened}
-use Rattle.isdu.specs.Order.{Order, read, write, address_of, can_ask, data_of, is_data, order_view, service_for}
+use Rattle.isdu.specs.Order.{Order, read, write, address_of, can_ask, data_of, is_data, service_for}
 use Rattle.isdu.specs.Request.{Asked, Asks, Carries, NotAsked, addressed, order_in, order_of, ordered, read_at, read_of, request_in, request_octets, request_of, well_formed, write_of}
 use Rattle.isdu.specs.Service.{Address, address_octets, asking, can_name, first_form, service_at, service_bits, service_of}
 use Rattle.isdu.specs.Total.{TotalSoFar}
-use Rattle.isdu.specs.declared.order.Order.{Order as Borrowed}
 use Rattle.isdu.specs.declared.opened.NoIsdu.{NoIsdu}
 use Rattle.isdu.specs.declared.opened.NoIsdu.TheVariants.{Incomplete}
 use Rattle.isdu.specs.declared.service.Form.{Form}
@@ -20,13 +15,21 @@ use Rattle.isdu.specs.declared.service.Form.TheVariants.{Index8, Index8Subindex,
 use Rattle.isdu.specs.declared.service.IService.{IService}
 use Rattle.isdu.specs.declared.service.IService.TheVariants.{Write, Read, WriteRefused, WriteDone, ReadRefused, ReadDone}
 use Rattle.isdu.proofs.Closed.{first-service, opened-isdu, opened-part, total-isdu}
-use Rattle.isdu.proofs.Forms.{address-count, first-names}
 use Rattle.isdu.proofs.Reopened.{Reopened, Small, contents-octets, reopened, whole_of}
 
 pub service-back : (v : IService) → service_at (service_bits v) ≡ Some v
 service-back v = grind (arith, nat_tests)
 
+-- the first form can name the address
+first-names : (at : Address) → can_name (first_form at) at ≡ true
+first-names at = grind (arith, nat_tests)
+
 -- ---- from the order to the octets and back
+
+address-count : (f : Form) (at : Address) → length (address_octets f at) ≤ 3
+address-count Index8 at = omega arith
+address-count Index8Subindex at = omega arith
+address-count Index16Subindex at = omega arith
 
 addressed-back : (f : Form) (at : Address) (d : List ℕ) → can_name f at ≡ true → addressed f (address_octets f at ++ d) ≡ Some (at, d)
 addressed-back Index8 at d h =
@@ -54,15 +57,12 @@ module _ (f : Form) (o : Order) (names : can_name f (address_of o) ≡ true) (ca
       let v : IService = asking (service_for o) f in
       let c : List ℕ = address_octets f (address_of o) ++ data_of o in
       let n : length c ≤ 235 = contents-count f o can in
-      let first : ℕ = get_or (head (service_bits v) (length c)) 0 0 in
       let service : service_of (get_or (head (service_bits v) (length c)) 0 0) ≡ Some v = ap service_at (first-service (service_bits v) (length c) n) ∙ service-back v in
-      ap ordered (opened-isdu (service_bits v) c more n)
-      ∙ ap (λ (s : Option IService). well_formed (order_in s c)) service
-      ∙ ap well_formed (order-back f o names can)
+      rw (opened-isdu (service_bits v) c more n, service, order-back f o names can)
 
   pub request-part : (k : ℕ) → k < length (request_in f o) → request_of (take k (request_in f o)) ≡ Err Incomplete
   unfolding request_of
-  request-part k l = ap ordered (opened-part (service_bits (asking (service_for o) f)) _ k (contents-count f o can) l)
+  request-part k l = rw (opened-part (service_bits (asking (service_for o) f)) (address_octets f (address_of o) ++ data_of o) k (contents-count f o can) l)
 
   pub request-total : (k : ℕ) (more : List ℕ) → TotalSoFar (take k (request_in f o ++ more)) k (length (request_in f o))
   request-total k more = total-isdu (service_bits (asking (service_for o) f)) _ more k (contents-count f o can)
@@ -146,10 +146,6 @@ service-bits n v e = grind (arith, nat_tests)
 pub asks_read : (os : List ℕ) (f : Form) (o : Order) → Asks os f o → request_of os ≡ Ok o
 asks_read os f o a = ap request_of (whole_of os (request_in f o) a.begins) ∙ request-back f o a.names a.can (drop (length (request_in f o)) os)
 
--- It is one order.
-same-order : (os : List ℕ) (o x : Order) → request_of os ≡ Ok o → request_of os ≡ Ok x → x ≡ o
-same-order os o x e h = cc
-
 pub not-asked : (os : List ℕ) (e : NoIsdu) → request_of os ≡ Err e → NotAsked os
 not-asked os e h f o a = let r = asks_read os f o a in let z : ◌≡◌ {A = Result Order NoIsdu} (Ok o) (Err e) = sym r ∙ h in grind arith
 
@@ -168,7 +164,7 @@ asked os o small e = by_parts (opened os) refl e
     by_order a c v w s (Some x) g h =
         let same : x ≡ o = cc in
         let n : Formed v c o = formed v c o (contents-octets os a c small w) (g ∙ ap Some same) in
-        record { form = n.form; asks = formed-asks os a v c o w (service-bits (a / 16) v s) n; only = λ f y b. same-order os o y e (asks_read os f y b) }
+        record { form = n.form; asks = formed-asks os a v c o w (service-bits (a / 16) v s) n; only = λ f y b. let r = asks_read os f y b in cc }
 
     by-service : (a : ℕ) (c : List ℕ) → Reopened os a c → (s : Option IService) → service_of a ≡ s → well_formed (order_in s c) ≡ Ok o → Asked os o
     by-service a c w None s h = grind arith
@@ -177,31 +173,3 @@ asked os o small e = by_parts (opened os) refl e
     by_parts : (r : Result (ℕ × List ℕ) NoIsdu) → opened os ≡ r → ordered r ≡ Ok o → Asked os o
     by_parts (Err x) p h = grind arith
     by_parts (Ok (a, c)) p h = by-service a c (reopened os a c p) (service_of a) refl h
-
--- ---- what the calls owe, by what they answer
-
-pub read-value : (os : List ℕ) (r : Result Borrowed NoIsdu) → MatchResult r (λ o. ordered (opened os) ≡ Ok (order_view o)) (λ x. ordered (opened os) ≡ Err x)
-    → MatchResult r (λ o. request_of os ≡ Ok (order_view o)) (λ x. request_of os ≡ Err x)
-unfolding request_of
-read-value os r e = e
-
-pub read_asked : (os : List ℕ) → Small os → (r : Result Borrowed NoIsdu) → MatchResult r (λ o. request_of os ≡ Ok (order_view o)) (λ x. request_of os ≡ Err x)
-    → IfOk r (λ o. Asked os (order_view o))
-read_asked os small (Ok o) e = asked os (order_view o) small e
-read_asked os small (Err x) e = tt
-
-pub read-unasked : (os : List ℕ) (r : Result Borrowed NoIsdu) → MatchResult r (λ o. request_of os ≡ Ok (order_view o)) (λ x. request_of os ≡ Err x)
-    → IfErr r (λ _. NotAsked os)
-read-unasked os (Ok o) e = tt
-read-unasked os (Err x) e = not-asked os x e
-
-abbrev Written : Order → List ℕ → Result (Octets 238) Refusal → Type 0
-Written o os r = MatchResult r (λ w. (can_ask o ≡ true) × (octets w ≡ os)) (λ x. (can_ask o ≡ false) × (refusal_number x ≡ 9))
-
-pub written-value : (o : Order) (r : Result (Octets 238) Refusal) → Written o (request_in (first_form (address_of o)) o) r → Written o (request_octets o) r
-unfolding request_octets
-written-value o r e = e
-
-pub written_back : (o : Order) (r : Result (Octets 238) Refusal) → Written o (request_octets o) r → IfOk r (λ w. Carries (octets w) o)
-written_back o (Ok w) e = subst (λ (os : List ℕ). Carries os o) (sym e.1) (carries o e.0)
-written_back o (Err x) e = tt

@@ -5,11 +5,13 @@ use Rattle.std.proofs.lemmas.Bool.{cases_Bool, cases_lt}
 use Rattle.std.proofs.lemmas.Bool.Decides.{nat_tests}
 use Rattle.isdu.specs.Isdu.{Begins, isdu}
 use Rattle.isdu.specs.Opened.{head_count, head_so_far, opened}
-use Rattle.isdu.specs.Reply.{Reply, Verdict, broken, complete}
+use Rattle.isdu.specs.Reply.{Reply}
 use Rattle.isdu.specs.Response.{Hopeful, Hopeless, Just, Replies, judge, judged, reply_in, reply_octets, ruled_out, saying, verdict_of}
 use Rattle.isdu.specs.Service.{service_bits, service_of}
 use Rattle.isdu.specs.declared.opened.NoIsdu.{NoIsdu}
 use Rattle.isdu.specs.declared.opened.NoIsdu.TheVariants.{Incomplete, BadTotal, NotWellFormed}
+use Rattle.isdu.specs.declared.reply.NoReply.{NoReply}
+use Rattle.isdu.specs.declared.reply.NoReply.TheVariants.{Broken}
 use Rattle.isdu.specs.declared.service.IService.{IService}
 use Rattle.isdu.specs.declared.service.Service.{Service}
 use Rattle.isdu.specs.declared.service.Service.TheVariants.{Read, Write}
@@ -21,32 +23,25 @@ use Rattle.isdu.proofs.Replies.{Said, replies-read, said}
 use Rattle.isdu.proofs.Requests.{service-bits}
 
 -- a verdict that stays broken leaves no reply
-hopeless-by : (os : List ℕ) (s : Service) → ((more : List ℕ) → verdict_of s (os ++ more) ≡ broken) → Hopeless os s
+hopeless-by : (os : List ℕ) (s : Service) → ((more : List ℕ) → verdict_of s (os ++ more) ≡ Err Broken) → Hopeless os s
 hopeless-by os s stays more r a =
-    let z : ◌≡◌ {A = Verdict} (complete r) broken = sym (replies-read (os ++ more) s r a) ∙ stays more in grind arith
+    let z : ◌≡◌ {A = Result Reply NoReply} (Ok r) (Err Broken) = sym (replies-read (os ++ more) s r a) ∙ stays more in grind arith
 
 ruled-hopeless : (os : List ℕ) (s : Service) → ruled_out s os ≡ true → Hopeless os s
 unfolding verdict_of
 ruled-hopeless os s h = hopeless-by os s stays
   where
-    stays : (more : List ℕ) → verdict_of s (os ++ more) ≡ broken
+    stays : (more : List ℕ) → verdict_of s (os ++ more) ≡ Err Broken
     stays more = rw (ruled-more s os more h)
 
 -- octets that are there, and no reply
-judged-hopeless : (os : List ℕ) (s : Service) (p : Result (ℕ × List ℕ) NoIsdu) → opened os ≡ p → (p ≡ Err Incomplete → ⊥) → judge s p ≡ broken → Hopeless os s
+judged-hopeless : (os : List ℕ) (s : Service) (p : Result (ℕ × List ℕ) NoIsdu) → opened os ≡ p → (p ≡ Err Incomplete → ⊥) → judge s p ≡ Err Broken → Hopeless os s
 unfolding verdict_of
 judged-hopeless os s p e there h = hopeless-by os s (λ more. stays more (opened-more os more))
   where
-    either : (b : Bool) → cond b broken broken ≡ broken
-    either true = refl
-    either false = refl
-
-    stays : (more : List ℕ) → (opened os ≡ Err Incomplete) ⊎ (opened (os ++ more) ≡ opened os) → verdict_of s (os ++ more) ≡ broken
+    stays : (more : List ℕ) → (opened os ≡ Err Incomplete) ⊎ (opened (os ++ more) ≡ opened os) → verdict_of s (os ++ more) ≡ Err Broken
     stays more (inl i) = absurd (there (sym e ∙ i))
-    stays more (inr same) =
-        ap (λ (x : Result (ℕ × List ℕ) NoIsdu). cond (ruled_out s (os ++ more)) broken (judge s x)) (same ∙ e)
-        ∙ ap (λ (x : Verdict). cond (ruled_out s (os ++ more)) broken x) h
-        ∙ either (ruled_out s (os ++ more))
+    stays more (inr same) = rw (same ∙ e, h) (elim (ruled_out s (os ++ more)) as (λ b. ◌≡◌ {A = Result Reply NoReply} (cond b (Err Broken) (Err Broken)) (Err Broken)) [ true ↦ refl | false ↦ refl ])
 
 -- octets that are there, and a reply
 said-replies : (os : List ℕ) (s : Service) (a : ℕ) (c : List ℕ) (v : IService) (r : Reply) → Reopened os a c → service_of a ≡ Some v → Said s v c r → Replies os s r
@@ -60,7 +55,7 @@ pub just : (os : List ℕ) (s : Service) → Small os → Just os s (verdict_of 
 unfolding verdict_of
 just os s small = by-head (ruled_out s os) refl (opened os) refl
   where
-    only : (r : Reply) → verdict_of s os ≡ complete r → (x : Reply) → Replies os s x → x ≡ r
+    only : (r : Reply) → verdict_of s os ≡ Ok r → (x : Reply) → Replies os s x → x ≡ r
     only r e x a = let h = replies-read os s x a in cc
 
     by-reply : (a : ℕ) (c : List ℕ) (v : IService) → ruled_out s os ≡ false → opened os ≡ Ok (a, c) → service_of a ≡ Some v → (r : Option Reply) → reply_in s (Some v) c ≡ r → Just os s (judged r)
@@ -68,14 +63,14 @@ just os s small = by-head (ruled_out s os) refl (opened os) refl
         judged-hopeless os s (Ok (a, c)) p (λ z. let y : ⊥ = grind arith in y) (ap (λ (x : Option IService). judged (reply_in s x c)) e ∙ ap judged g)
     by-reply a c v u p e (Some r) g =
         let w : Reopened os a c = reopened os a c p in
-        let all : verdict_of s os ≡ complete r = rw (u, p) (ap (λ (x : Option IService). judged (reply_in s x c)) e ∙ ap judged g) in
+        let all : verdict_of s os ≡ Ok r = rw (u, p) (ap (λ (x : Option IService). judged (reply_in s x c)) e ∙ ap judged g) in
         (said-replies os s a c v r w e (said s v c r (contents-octets os a c small w) g), only r all)
 
     by-service : (a : ℕ) (c : List ℕ) → ruled_out s os ≡ false → opened os ≡ Ok (a, c) → (v : Option IService) → service_of a ≡ v → Just os s (judged (reply_in s v c))
     by-service a c u p None e = judged-hopeless os s (Ok (a, c)) p (λ z. let y : ⊥ = grind arith in y) (ap (λ (x : Option IService). judged (reply_in s x c)) e)
     by-service a c u p (Some v) e = by-reply a c v u p e (reply_in s (Some v) c) refl
 
-    by-head : (b : Bool) → ruled_out s os ≡ b → (p : Result (ℕ × List ℕ) NoIsdu) → opened os ≡ p → Just os s (cond b broken (judge s p))
+    by-head : (b : Bool) → ruled_out s os ≡ b → (p : Result (ℕ × List ℕ) NoIsdu) → opened os ≡ p → Just os s (cond b (Err Broken) (judge s p))
     by-head true u p e = ruled-hopeless os s u
     by-head false u (Err Incomplete) e = hopeful s os small u e
     by-head false u (Err BadTotal) e = judged-hopeless os s (Err BadTotal) e (λ z. let y : ⊥ = grind arith in y) refl
@@ -124,12 +119,3 @@ ruled-just os s true small e = ruled-hopeless (head_so_far os) s ((head-decides 
 ruled-just os s false small e =
     let d : HeadDecides s os (head_so_far os) = head-decides s os in
     hopeful s (head_so_far os) (front-small (head_count os) os small) (d.same ∙ sym e) (d.waits (sym e))
-
--- ---- what the reader owes, by what it answers
-
-pub verdict-value : (s : Service) (os : List ℕ) (v : Verdict) → v ≡ cond (ruled_out s os) broken (judge s (opened os)) → v ≡ verdict_of s os
-unfolding verdict_of
-verdict-value s os v e = e
-
-pub just-as : (os : List ℕ) (s : Service) (v : Verdict) → Small os → v ≡ verdict_of s os → Just os s v
-just-as os s v small e = subst (Just os s) (sym e) (just os s small)

@@ -4,8 +4,8 @@ use Rattle.isdu.specs.Isdu.{xor_of}
 use Rattle.isdu.specs.Total.{total_of}
 use Rattle.isdu.specs.declared.opened.NoIsdu.{NoIsdu}
 use Rattle.isdu.specs.declared.opened.NoIsdu.TheVariants.{Incomplete, BadTotal, NotWellFormed}
-use Rattle.isdu.specs.declared.total.Total.{Total}
-use Rattle.isdu.specs.declared.total.Total.TheVariants.{Unknown, Bad, Known}
+use Rattle.isdu.specs.declared.total.NoTotal.{NoTotal}
+use Rattle.isdu.specs.declared.total.NoTotal.TheVariants.{Unknown, Bad}
 
 -- The head has two octets where the Length is 1, else one.
 abbrev pub head_count : List ℕ → ℕ
@@ -23,10 +23,14 @@ contents_of front = drop (head_count front) front
 abbrev pub whole : ℕ → List ℕ → Result (ℕ × List ℕ) NoIsdu
 whole t os = cond (xor_of (take t os) == 0) (Ok (slice_index os 0, contents_of (take (t - 1) os))) (Err NotWellFormed)
 
-abbrev pub opened_by : Total → List ℕ → Result (ℕ × List ℕ) NoIsdu
-opened_by Unknown os = Err Incomplete
-opened_by Bad os = Err BadTotal
-opened_by (Known t) os = cond (nat_le t (length os)) (whole t os) (Err Incomplete)
+-- Octets that say no total yet are incomplete.
+abbrev pub no_isdu : NoTotal → NoIsdu
+no_isdu Unknown = Incomplete
+no_isdu Bad = BadTotal
+
+abbrev pub opened_by : Result ℕ NoTotal → List ℕ → Result (ℕ × List ℕ) NoIsdu
+opened_by (Err why) os = Err (no_isdu why)
+opened_by (Ok t) os = cond (nat_le t (length os)) (whole t os) (Err Incomplete)
 
 abbrev pub opened : List ℕ → Result (ℕ × List ℕ) NoIsdu
 opened os = opened_by (total_of os) os

@@ -1,9 +1,10 @@
--- Orders and replies as plain values.
+-- Orders as plain values.
+use Rattle.std.specs.Borrow.{Bor}
 use Rattle.std.specs.Prelude.{ℕ, Bool, true, ◌&&◌, List, [], length, nat_le}
 use Rattle.isdu.specs.Service.{Address}
 use Rattle.isdu.specs.declared.service.Service.{Service}
 use Rattle.isdu.specs.declared.service.Service.TheVariants.{Read as ReadService, Write as WriteService}
-use Rattle.isdu.specs.declared.order.Order.{Order as Borrowed}
+use Rattle.isdu.specs.declared.order.Order.{Order as Carried}
 use Rattle.isdu.specs.declared.order.Order.TheVariants.{Read, Write}
 
 -- The octets at an address are to be read, or written.
@@ -11,9 +12,16 @@ pub data Order : Type 0 where
   read : Address → Order
   write : Address → List ℕ → Order
 
-abbrev pub order_view : Borrowed → Order
-order_view (Read at) = read at
-order_view (Write at d) = write at d.now
+-- By what the data stands for: octets that are borrowed, or held.
+abbrev pub order_with : {D : Type 0} → (D → List ℕ) → Carried D → Order
+order_with f (Read at) = read at
+order_with f (Write at d) = write at (f d)
+
+abbrev pub order_view : Carried (Bor (List ℕ)) → Order
+order_view = order_with (λ d. d.now)
+
+abbrev pub held_order : Carried (List ℕ) → Order
+held_order = order_with (λ d. d)
 
 abbrev pub address_of : Order → Address
 address_of (read at) = at

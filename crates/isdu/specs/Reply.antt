@@ -1,9 +1,9 @@
--- Replies as plain values, and what a reader makes of the octets so far.
-use Rattle.std.specs.Prelude.{ℕ, Bool, true, List, length, nat_le}
-use Rattle.isdu.specs.declared.reply.Reply.{Reply as BorrowedReply}
+-- Replies as plain values.
+use Rattle.std.specs.Borrow.{Bor}
+use Rattle.std.specs.Prelude.{ℕ, Bool, true, List, length, Ok, Err, Result, nat_le}
+use Rattle.isdu.specs.declared.reply.NoReply.{NoReply}
+use Rattle.isdu.specs.declared.reply.Reply.{Reply as Carried}
 use Rattle.isdu.specs.declared.reply.Reply.TheVariants.{WriteRefused, WriteDone, ReadRefused, ReadDone}
-use Rattle.isdu.specs.declared.reply.Verdict.{Verdict as BorrowedVerdict}
-use Rattle.isdu.specs.declared.reply.Verdict.TheVariants.{GoOn, Broken, Complete}
 use Rattle.isdu.specs.declared.service.Service.{Service}
 use Rattle.isdu.specs.declared.service.Service.TheVariants.{Read, Write}
 
@@ -14,11 +14,18 @@ pub data Reply : Type 0 where
   read_refused : ℕ → Reply
   read_done : List ℕ → Reply
 
-abbrev pub reply_view : BorrowedReply → Reply
-reply_view (WriteRefused e) = write_refused e
-reply_view WriteDone = write_done
-reply_view (ReadRefused e) = read_refused e
-reply_view (ReadDone d) = read_done d.now
+-- By what the data stands for: octets that are borrowed, or held.
+abbrev pub reply_with : {D : Type 0} → (D → List ℕ) → Carried D → Reply
+reply_with f (WriteRefused e) = write_refused e
+reply_with f WriteDone = write_done
+reply_with f (ReadRefused e) = read_refused e
+reply_with f (ReadDone d) = read_done (f d)
+
+abbrev pub reply_view : Carried (Bor (List ℕ)) → Reply
+reply_view = reply_with (λ d. d.now)
+
+abbrev pub held_reply : Carried (List ℕ) → Reply
+held_reply = reply_with (λ d. d)
 
 -- The kind of order that a reply answers.
 abbrev pub answers : Reply → Service
@@ -34,12 +41,7 @@ can_answer write_done = true
 can_answer (read_refused e) = true
 can_answer (read_done d) = nat_le (length d) 232
 
-pub data Verdict : Type 0 where
-  go_on : Verdict
-  broken : Verdict
-  complete : Reply → Verdict
-
-abbrev pub verdict_view : BorrowedVerdict → Verdict
-verdict_view GoOn = go_on
-verdict_view Broken = broken
-verdict_view (Complete r) = complete (reply_view r)
+-- What a reader makes of the octets so far.
+abbrev pub verdict_view : Result (Carried (Bor (List ℕ))) NoReply → Result Reply NoReply
+verdict_view (Ok r) = Ok (reply_view r)
+verdict_view (Err e) = Err e

@@ -2,11 +2,13 @@
 use Rattle.std.specs.Prelude.{◌≡◌, ℕ, ◌+◌, ◌*◌, ◌/◌, ◌%◌, ◌<◌, Bool, true, false, cond, not, ◌&&◌, ◌||◌, List, [], ◌∷◌, ◌++◌, length, take, Some, None, Ok, Err, Option, Result, ◌==◌, nat_le}
 use Rattle.isdu.specs.Isdu.{Begins, isdu}
 use Rattle.isdu.specs.Opened.{opened}
-use Rattle.isdu.specs.Reply.{Reply, answers, can_answer, write_refused, write_done, read_refused, read_done, Verdict, go_on, broken, complete}
+use Rattle.isdu.specs.Reply.{Reply, answers, can_answer, write_refused, write_done, read_refused, read_done}
 use Rattle.isdu.specs.Service.{service_bits, service_of}
 use Rattle.isdu.specs.Total.{TotalSoFar}
 use Rattle.isdu.specs.declared.opened.NoIsdu.{NoIsdu}
 use Rattle.isdu.specs.declared.opened.NoIsdu.TheVariants.{Incomplete, BadTotal, NotWellFormed}
+use Rattle.isdu.specs.declared.reply.NoReply.{NoReply}
+use Rattle.isdu.specs.declared.reply.NoReply.TheVariants.{Incomplete as GoOn, Broken}
 use Rattle.isdu.specs.declared.service.IService.{IService}
 use Rattle.isdu.specs.declared.service.IService.TheVariants.{Write as AskWrite, Read as AskRead, WriteRefused, WriteDone, ReadRefused, ReadDone}
 use Rattle.isdu.specs.declared.service.Service.{Service}
@@ -86,19 +88,23 @@ abbrev pub ruled_out : Service → List ℕ → Bool
 ruled_out s [] = false
 ruled_out s (first ∷ rest) = not (head_of s first rest)
 
-abbrev pub judged : Option Reply → Verdict
-judged None = broken
-judged (Some r) = complete r
+abbrev pub judged : Option Reply → Result Reply NoReply
+judged None = Err Broken
+judged (Some r) = Ok r
 
-abbrev pub judge : Service → Result (ℕ × List ℕ) NoIsdu → Verdict
-judge s (Err Incomplete) = go_on
-judge s (Err BadTotal) = broken
-judge s (Err NotWellFormed) = broken
+-- Octets that are no ISDU: no reply comes of them, or not yet.
+abbrev pub no_reply : NoIsdu → NoReply
+no_reply Incomplete = GoOn
+no_reply BadTotal = Broken
+no_reply NotWellFormed = Broken
+
+abbrev pub judge : Service → Result (ℕ × List ℕ) NoIsdu → Result Reply NoReply
+judge s (Err e) = Err (no_reply e)
 judge s (Ok p) = judged (reply_in s (service_of p.0) p.1)
 
 -- Broken with the octets that rule out every reply, otherwise when the total is there.
-unfoldable pub verdict_of : Service → List ℕ → Verdict
-verdict_of s os = cond (ruled_out s os) broken (judge s (opened os))
+unfoldable pub verdict_of : Service → List ℕ → Result Reply NoReply
+verdict_of s os = cond (ruled_out s os) (Err Broken) (judge s (opened os))
 
 -- ---- laws
 
@@ -119,13 +125,13 @@ pub record Hopeful (os : List ℕ) (s : Service) : Type 0 where
   pub comes : Replies (os ++ more) s reply
 
 -- A verdict is right: the one reply that the octets begin with, or more octets of a reply that can still come, or none can.
-abbrev pub Just : List ℕ → Service → Verdict → Type 0
-Just os s go_on = Hopeful os s
-Just os s broken = Hopeless os s
-Just os s (complete r) = Replies os s r × ((x : Reply) → Replies os s x → x ≡ r)
+abbrev pub Just : List ℕ → Service → Result Reply NoReply → Type 0
+Just os s (Err GoOn) = Hopeful os s
+Just os s (Err Broken) = Hopeless os s
+Just os s (Ok r) = Replies os s r × ((x : Reply) → Replies os s x → x ≡ r)
 
 -- A reply that is written: whole, it is complete, whatever follows; in part, the reader goes on; and the total that its first octets say is its length.
 pub record Brings (os : List ℕ) (r : Reply) : Type 0 where
-  pub whole : (more : List ℕ) → verdict_of (answers r) (os ++ more) ≡ complete r
-  pub part : (k : ℕ) → k < length os → verdict_of (answers r) (take k os) ≡ go_on
+  pub whole : (more : List ℕ) → verdict_of (answers r) (os ++ more) ≡ Ok r
+  pub part : (k : ℕ) → k < length os → verdict_of (answers r) (take k os) ≡ Err GoOn
   pub total : (k : ℕ) (more : List ℕ) → TotalSoFar (take k (os ++ more)) k (length os)

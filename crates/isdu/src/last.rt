@@ -5,9 +5,5 @@ ghost use Rattle.isdu.specs.Isdu.{xor_of};
 pub(crate) fn exclusive_or(octets: &[u8]) -> u8
     ensures { result ≡ xor_of octets.now }
 {
-    let mut fold = 0;
-    for octet in octets {
-        fold ^= *octet;
-    }
-    fold
+    octets.iter().fold(0, |fold, octet| fold ^ octet)
 }

@@ -14,3 +14,6 @@ mod written;
 
 /// The most octets that an ISDU has.
 pub const MOST: usize = 238;
+
+/// The most octets that an order writes, or a reply has read.
+pub const MOST_DATA: usize = 232;

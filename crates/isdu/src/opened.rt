@@ -1,10 +1,10 @@
 //! The parts of an ISDU, whatever it carries.
-ghost use Rattle.std.specs.Prelude.{◌≡◌, ◌+◌, ◌*◌, ◌%◌, ◌≤◌, true, length, IfOk, Ok, Err, MatchResult, slice_index};
-ghost use Rattle.isdu.specs.Opened.{contents_of, head_count, opened};
+ghost use Rattle.std.specs.Prelude.{◌≡◌, ◌%◌, ◌≤◌, true, length, Ok, Err, MatchResult, slice_index};
+ghost use Rattle.isdu.specs.Opened.{contents_of, head_count, no_isdu, opened};
 ghost use Rattle.isdu.specs.Service.{length_fits};
 
 use crate::last::exclusive_or;
-use crate::total::Total;
+use crate::total::{NoTotal, total_of};
 
 /// Why octets are no ISDU that can be read.
 #[derive(Clone, Copy, PartialEq, Eq, Debug)]
@@ -17,21 +17,38 @@ pub enum NoIsdu {
     NotWellFormed,
 }
 
-/// The first octet and what stands between the head and the last octet. What follows the total
-/// is skipped.
-pub(crate) fn open_isdu(octets: &[u8]) -> Result<(u8, &[u8]), NoIsdu>
-    ensures value { MatchResult result (λ p. opened octets.now ≡ Ok (p.0, p.1.now)) (λ e. opened octets.now ≡ Err e) }
-    ensures fits { IfOk result (λ p. length_fits (p.0 % 16) p.1.now ≡ true) }
+impl From<NoTotal> for NoIsdu {
+    ghost from_gives = { λ why e. e ≡ no_isdu why };
+
+    fn from(why: NoTotal) -> NoIsdu {
+        match why {
+            NoTotal::Unknown => NoIsdu::Incomplete,
+            NoTotal::Bad => NoIsdu::BadTotal,
+        }
+    }
+}
+
+/// An ISDU's first octet, and what stands between its head and its last octet.
+#[derive(Clone, Copy, PartialEq, Eq, Debug)]
+pub(crate) struct Opened<'a> {
+    pub(crate) first: u8,
+    pub(crate) contents: &'a [u8],
+    ghost fits: { length_fits (first % 16) contents.now ≡ true },
+}
+
+/// The parts of the ISDU that octets begin with. What follows the total is skipped.
+pub(crate) fn open_isdu(octets: &[u8]) -> Result<Opened<'_>, NoIsdu>
+    ensures { MatchResult result (λ p. opened octets.now ≡ Ok (p.first, p.contents.now)) (λ e. opened octets.now ≡ Err e) }
 {
-    let total = match Total::of(octets) {
-        Total::Known(total) if total <= octets.len() => total,
-        Total::Known(_) | Total::Unknown => return Err(NoIsdu::Incomplete),
-        Total::Bad => return Err(NoIsdu::BadTotal),
-    };
-    if exclusive_or(&octets[0..total]) != 0 {
+    let total = total_of(octets)?;
+    if total > octets.len() {
+        return Err(NoIsdu::Incomplete);
+    }
+    if exclusive_or(&octets[..total]) != 0 {
         return Err(NoIsdu::NotWellFormed);
     }
-    Ok(parts(&octets[0..total - 1]))
+    let (first, contents) = parts(&octets[..total - 1]);
+    Ok(Opened { first, contents })
 }
 
 // The first of the octets before the last, and what follows the head among them.
@@ -40,21 +57,9 @@ fn parts(front: &[u8]) -> (u8, &[u8])
     ensures first { result.0 ≡ slice_index front.now 0 }
     ensures contents { result.1.now ≡ contents_of front.now }
 {
-    let [first, rest @ ..] = front else {
-        unreachable()
-    };
-    if first % 16 != 1 {
-        return (*first, rest);
+    match front {
+        [first, contents @ ..] if first % 16 != 1 => (*first, contents),
+        [first, _, contents @ ..] => (*first, contents),
+        _ => unreachable!(),
     }
-    let [_total, contents @ ..] = rest else {
-        unreachable()
-    };
-    (*first, contents)
-}
-
-/// The number of sixteen bits in two octets of an ISDU, the high one first.
-pub(crate) fn high_first(high: u8, low: u8) -> u16
-    ensures { result ≡ high * 256 + low }
-{
-    u16::from_be_bytes([high, low])
 }

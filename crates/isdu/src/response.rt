@@ -1,37 +1,37 @@
 //! The octets of a reply, written and read.
-ghost use Rattle.std.specs.Prelude.{◌≡◌, true, false, IfSome, if◌then◌else◌, Some, None, MatchBool, MatchOption};
+ghost use Rattle.std.specs.Prelude.{◌≡◌, true, false, IfSome, if◌then◌else◌, Some, None, Err, MatchBool, MatchOption};
 ghost use Rattle.isdu.specs.Isdu.{isdu};
 ghost use Rattle.isdu.specs.Opened.{head_so_far, opened};
-ghost use Rattle.isdu.specs.Reply.{broken, can_answer, reply_view, verdict_view};
+ghost use Rattle.isdu.specs.Reply.{can_answer, reply_view, verdict_view};
+ghost use Rattle.isdu.specs.declared.reply.NoReply.TheVariants.{Broken};
 ghost use Rattle.isdu.specs.Response.{Brings, Hopeful, Hopeless, Just, carried, error_octets, error_of, judge, long_head, reply_in, reply_octets, ruled_out, saying, verdict_of};
-ghost use Rattle.isdu.specs.Service.{length_fits, service_bits};
-ghost use Rattle.octets.specs.Octets.{octets};
+ghost use Rattle.isdu.specs.Service.{service_bits, service_of};
 
-use crate::MOST;
-use crate::opened::{NoIsdu, high_first, open_isdu};
-use crate::reply::{Reply, Verdict};
+use crate::opened::{Opened, open_isdu};
+use crate::reply::{NoReply, Reply};
 use crate::service::{IService, Service};
 use crate::written::write_isdu;
+use crate::{MOST, MOST_DATA};
 use octets::Octets;
 
 /// The octets of a reply. A read of more than 232 octets has none.
-pub fn write_reply(reply: &Reply<'_>) -> Option<Octets<MOST>>
-    ensures value { MatchOption result (can_answer (reply_view reply.now) ≡ false) (λ w. (can_answer (reply_view reply.now) ≡ true) × (octets w ≡ reply_octets (reply_view reply.now))) }
-    ensures back { IfSome result (λ w. Brings (octets w) (reply_view reply.now)) }
+pub fn write_reply(reply: &Reply<&[u8]>) -> Option<Octets<MOST>>
+    ensures value { MatchOption result (can_answer (reply_view reply.now) ≡ false) (λ w. (can_answer (reply_view reply.now) ≡ true) × (w ≡ reply_octets (reply_view reply.now))) }
+    ensures back { IfSome result (λ w. Brings w (reply_view reply.now)) }
 {
     reply_row(reply)
 }
 
 // The laws are `write_reply`'s to state.
-fn reply_row(reply: &Reply<'_>) -> Option<Octets<MOST>>
-    ensures { MatchOption result (can_answer (reply_view reply.now) ≡ false) (λ w. (can_answer (reply_view reply.now) ≡ true) × (octets w ≡ isdu (service_bits (saying (reply_view reply.now))) (carried (reply_view reply.now)))) }
+fn reply_row(reply: &Reply<&[u8]>) -> Option<Octets<MOST>>
+    ensures { MatchOption result (can_answer (reply_view reply.now) ≡ false) (λ w. (can_answer (reply_view reply.now) ≡ true) × (w ≡ isdu (service_bits (saying (reply_view reply.now))) (carried (reply_view reply.now)))) }
 {
     match reply {
         Reply::WriteRefused(error) => Some(refusal_row(IService::WriteRefused, *error)),
         Reply::WriteDone => Some(write_isdu(IService::WriteDone, &[], &[])),
         Reply::ReadRefused(error) => Some(refusal_row(IService::ReadRefused, *error)),
         Reply::ReadDone(data) => match data.len() {
-            0..=232 => Some(write_isdu(IService::ReadDone, &[], data)),
+            0..=MOST_DATA => Some(write_isdu(IService::ReadDone, &[], data)),
             _ => None,
         },
     }
@@ -39,14 +39,13 @@ fn reply_row(reply: &Reply<'_>) -> Option<Octets<MOST>>
 
 // The error type, high octet first.
 fn refusal_row(service: IService, error: u16) -> Octets<MOST>
-    ensures { octets result ≡ isdu (service_bits service) (error_octets error) }
+    ensures { result ≡ isdu (service_bits service) (error_octets error) }
 {
     write_isdu(service, &error.to_be_bytes(), &[])
 }
 
-/// What the octets so far say of the reply to an order of this kind. Octets after the total are
-/// skipped.
-pub fn read_reply(service: Service, octets: &[u8]) -> Verdict<'_>
+/// The reply to an order of this kind. Octets after the total are skipped.
+pub fn read_reply(service: Service, octets: &[u8]) -> Result<Reply<&[u8]>, NoReply>
     ensures value { verdict_view result ≡ verdict_of service octets.now }
     ensures just { Just octets.now service (verdict_view result) }
 {
@@ -54,25 +53,13 @@ pub fn read_reply(service: Service, octets: &[u8]) -> Verdict<'_>
 }
 
 // The laws are `read_reply`'s to state.
-fn verdict_on(service: Service, octets: &[u8]) -> Verdict<'_>
-    ensures { verdict_view result ≡ (if ruled_out service octets.now then broken else judge service (opened octets.now)) }
+fn verdict_on(service: Service, octets: &[u8]) -> Result<Reply<&[u8]>, NoReply>
+    ensures { verdict_view result ≡ (if ruled_out service octets.now then Err Broken else judge service (opened octets.now)) }
 {
     if has_no_head(service, octets) {
-        return Verdict::Broken;
+        return Err(NoReply::Broken);
     }
-    match open_isdu(octets) {
-        Ok((first, contents)) => match reply_in(
-            service,
-            IService::from_octet(first),
-            first % 16,
-            contents,
-        ) {
-            Some(reply) => Verdict::Complete(reply),
-            None => Verdict::Broken,
-        },
-        Err(NoIsdu::Incomplete) => Verdict::GoOn,
-        Err(_) => Verdict::Broken,
-    }
+    reply_in(service, open_isdu(octets)?).ok_or(NoReply::Broken)
 }
 
 /// Whether the head of the octets, the first or the first two, rules out every reply of this kind.
@@ -91,10 +78,10 @@ fn has_no_head(service: Service, octets: &[u8]) -> bool
         return false;
     };
     match (service, IService::from_octet(*first), first % 16) {
-        (Service::Write, Some(IService::WriteRefused), 4) => false,
-        (Service::Write, Some(IService::WriteDone), 2) => false,
-        (Service::Read, Some(IService::ReadRefused), 4) => false,
-        (Service::Read, Some(IService::ReadDone), 2..=15) => false,
+        (Service::Write, Some(IService::WriteRefused), 4)
+        | (Service::Write, Some(IService::WriteDone), 2)
+        | (Service::Read, Some(IService::ReadRefused), 4)
+        | (Service::Read, Some(IService::ReadDone), 2..=15) => false,
         (Service::Read, Some(IService::ReadDone), 1) => !can_follow(rest),
         _ => true,
     }
@@ -104,33 +91,25 @@ fn has_no_head(service: Service, octets: &[u8]) -> bool
 fn can_follow(rest: &[u8]) -> bool
     ensures { result ≡ long_head rest.now }
 {
-    match rest {
-        [] | [17..=235, ..] => true,
-        _ => false,
-    }
+    matches!(rest, [] | [17..=235, ..])
 }
 
 // The reply of an I-Service, a Length and the contents that they announce.
-fn reply_in(
-    service: Service,
-    i_service: Option<IService>,
-    length: u8,
-    contents: &[u8],
-) -> Option<Reply<'_>>
-    requires { length_fits length contents.now ≡ true }
-    ensures { MatchOption result (reply_in service i_service contents.now ≡ None) (λ o. reply_in service i_service contents.now ≡ Some (reply_view o)) }
+fn reply_in(service: Service, isdu: Opened<'_>) -> Option<Reply<&[u8]>>
+    ensures { MatchOption result (reply_in service (service_of isdu.entry.first) isdu.entry.contents.now ≡ None) (λ o. reply_in service (service_of isdu.entry.first) isdu.entry.contents.now ≡ Some (reply_view o)) }
 {
-    match (service, i_service, length) {
-        (Service::Write, Some(IService::WriteRefused), 4) => Some(Reply::WriteRefused(error_type(
-            contents,
-        )?)),
+    let contents = isdu.contents;
+    match (service, IService::from_octet(isdu.first), isdu.first % 16) {
+        (Service::Write, Some(IService::WriteRefused), 4) => {
+            Some(Reply::WriteRefused(error_type(contents)?))
+        }
         (Service::Write, Some(IService::WriteDone), 2) => Some(Reply::WriteDone),
-        (Service::Read, Some(IService::ReadRefused), 4) => Some(Reply::ReadRefused(error_type(
-            contents,
-        )?)),
-        (Service::Read, Some(IService::ReadDone), 1..=15) if contents.len() <= 232 => Some(
-            Reply::ReadDone(contents),
-        ),
+        (Service::Read, Some(IService::ReadRefused), 4) => {
+            Some(Reply::ReadRefused(error_type(contents)?))
+        }
+        (Service::Read, Some(IService::ReadDone), 1..=15) if contents.len() <= MOST_DATA => {
+            Some(Reply::ReadDone(contents))
+        }
         _ => None,
     }
 }
@@ -140,7 +119,7 @@ fn error_type(contents: &[u8]) -> Option<u16>
     ensures { result ≡ error_of contents.now }
 {
     match contents {
-        [high, low] => Some(high_first(*high, *low)),
+        [high, low] => Some(u16::from_be_bytes([*high, *low])),
         _ => None,
     }
 }

@@ -1,5 +1,5 @@
 //! The I-Service: what kind of request or reply an ISDU is.
-ghost use Rattle.std.specs.Prelude.{◌≡◌, ◌+◌, ◌*◌, ◌/◌, ◌%◌, ◌<◌, ◌≤◌, true, IfSome, Some};
+ghost use Rattle.std.specs.Prelude.{◌≡◌, ◌+◌, ◌*◌, ◌/◌, ◌%◌, ◌≤◌, true, IfSome, Some};
 ghost use Rattle.isdu.specs.Service.{can_name, first_form, form_bits, service_bits, service_of};
 
 /// The kind of an order, and so of its reply.
@@ -9,29 +9,18 @@ pub enum Service {
     Write,
 }
 
-/// How a request names the address.
-#[derive(Clone, Copy)]
+/// How a request names the address. The I-Service has its number.
+#[derive(Clone, Copy, PartialEq, Eq, Debug)]
 pub enum Form {
     /// An index of eight bits; the subindex is 0.
-    Index8,
+    Index8 = 1,
     /// An index of eight bits and a subindex.
-    Index8Subindex,
+    Index8Subindex = 2,
     /// An index of sixteen bits, the high octet first, and a subindex.
-    Index16Subindex,
+    Index16Subindex = 3,
 }
 
 impl Form {
-    fn bits(self) -> u8
-        ensures value { result ≡ form_bits self }
-        ensures bound { result < 4 }
-    {
-        match self {
-            Form::Index8 => 1,
-            Form::Index8Subindex => 2,
-            Form::Index16Subindex => 3,
-        }
-    }
-
     /// The first form that can name an address.
     pub fn first_for(address: (u16, u8)) -> Form
         ensures value { result ≡ first_form address }
@@ -47,7 +36,7 @@ impl Form {
 }
 
 /// What an ISDU is, by bits 4 to 7 of its first octet: a request, or a reply.
-#[derive(Clone, Copy)]
+#[derive(Clone, Copy, PartialEq, Eq, Debug)]
 pub enum IService {
     Write(Form),
     Read(Form),
@@ -57,6 +46,7 @@ pub enum IService {
     ReadDone,
 }
 
+// Neither `From` nor `TryFrom`: an octet has the Length beside the I-Service.
 impl IService {
     /// The I-Service of an ISDU's first octet, if its bits 4 to 7 stand for one.
     pub fn from_octet(first: u8) -> Option<IService>
@@ -84,8 +74,8 @@ impl IService {
         ensures back { service_of result ≡ Some self }
     {
         let bits = match self {
-            IService::Write(form) => form.bits(),
-            IService::Read(form) => 8 + form.bits(),
+            IService::Write(form) => form as u8,
+            IService::Read(form) => 8 + form as u8,
             IService::WriteRefused => 0x4,
             IService::WriteDone => 0x5,
             IService::ReadRefused => 0xC,

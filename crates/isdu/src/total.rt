@@ -2,39 +2,36 @@
 ghost use Rattle.std.specs.Prelude.{◌≡◌};
 ghost use Rattle.isdu.specs.Total.{extended, total_of};
 
-/// What the first octets so far say of the total.
-#[derive(Clone, Copy)]
-pub enum Total {
+/// Why the first octets so far say no total.
+#[derive(Clone, Copy, PartialEq, Eq, Debug)]
+pub enum NoTotal {
     /// The octet that says it has not come.
     Unknown,
-    /// No ISDU has this total.
+    /// No ISDU has what they say.
     Bad,
-    Known(usize),
 }
 
-impl Total {
-    /// The total of the ISDU that begins with these octets.
-    pub fn of(octets: &[u8]) -> Total
-        ensures { result ≡ total_of octets.now }
-    {
-        let [first, rest @ ..] = octets else {
-            return Total::Unknown;
-        };
-        match first % 16 {
-            0 => Total::Bad,
-            1 => extended_total(rest),
-            length => Total::Known(length as usize),
-        }
+/// The total of the ISDU that begins with these octets.
+pub fn total_of(octets: &[u8]) -> Result<usize, NoTotal>
+    ensures { result ≡ total_of octets.now }
+{
+    let [first, rest @ ..] = octets else {
+        return Err(NoTotal::Unknown);
+    };
+    match first % 16 {
+        0 => Err(NoTotal::Bad),
+        1 => extended_total(rest),
+        length => Ok(usize::from(length)),
     }
 }
 
 // The total in the second octet, which follows the Length 1.
-fn extended_total(rest: &[u8]) -> Total
+fn extended_total(rest: &[u8]) -> Result<usize, NoTotal>
     ensures { result ≡ extended rest.now }
 {
     match rest {
-        [] => Total::Unknown,
-        [second @ 17..=238, ..] => Total::Known(*second as usize),
-        _ => Total::Bad,
+        [] => Err(NoTotal::Unknown),
+        [second @ 17..=238, ..] => Ok(usize::from(*second)),
+        _ => Err(NoTotal::Bad),
     }
 }

@@ -1,28 +1,13 @@
 -- Octets of a given count.
-use Rattle.std.proofs.Common.{◌≡◌, ℕ, zero, suc, ◌+◌, ◌-◌, ◌<◌, ◌≤◌, Bool, true, cond, List, [], ◌∷◌, ◌++◌, length, get_or, take, drop, replicate, refl, ap, ◌∙◌, suc-add, zero-add, add-one, arith}
+use Rattle.std.proofs.Common.{◌≡◌, ℕ, zero, suc, ◌+◌, ◌-◌, ◌<◌, ◌≤◌, List, [], ◌∷◌, ◌++◌, length, take, drop, replicate, refl, ap, ◌∙◌, suc-add, zero-add, arith}
 use native.Mathlib.Nat.{sub-zero}
 use Rattle.std.specs.List.{AllByRecursion}
-use Rattle.std.proofs.lemmas.List.{append_assoc}
 use Rattle.octets.specs.Octets.{fitted}
 
 pub length-fitted : (n : ℕ) (os : List ℕ) → length (fitted n os) ≡ n
 length-fitted zero os = refl
 length-fitted (suc n) [] = ap suc (length-fitted n [])
 length-fitted (suc n) (o ∷ os) = ap suc (length-fitted n os)
-
-fitted-suc : (n : ℕ) (os : List ℕ) → fitted (suc n) os ≡ fitted n os ++ get_or os n 0 ∷ []
-fitted-suc zero [] = refl
-fitted-suc zero (o ∷ os) = refl
-fitted-suc (suc n) [] = ap (λ (l : List ℕ). 0 ∷ l) (fitted-suc n [])
-fitted-suc (suc n) (o ∷ os) = ap (λ (l : List ℕ). o ∷ l) (fitted-suc n os)
-
--- a loop that appends one octet after the other to what was there
-pub fitted-more : (os row before after : List ℕ) (n o : ℕ) (r : Bool) → o ≡ get_or os n 0
-    → r ≡ true → after ≡ cond r (row ++ o ∷ []) row → row ≡ before ++ fitted n os → after ≡ before ++ fitted (n + 1) os
-fitted-more os row before after n o r e t a inv =
-    let m : fitted (n + 1) os ≡ fitted n os ++ get_or os n 0 ∷ [] = ap (λ k. fitted k os) (add-one n) ∙ fitted-suc n os in
-    let s = append_assoc before (fitted n os) (get_or os n 0 ∷ []) in
-    cc
 
 -- octets of the right count are as they are
 pub fitted-exact : (n : ℕ) (os : List ℕ) → length os ≡ n → fitted n os ≡ os
@@ -61,3 +46,11 @@ pub fitted-cut : (n : ℕ) (os : List ℕ) → n ≤ length os → fitted n os �
 fitted-cut zero os l = refl
 fitted-cut (suc n) [] l = absurd (let z : ⊥ = omega arith in z)
 fitted-cut (suc n) (o ∷ os) l = ap (λ (xs : List ℕ). o ∷ xs) (fitted-cut n os (omega arith))
+
+-- octets of a count are those that there are, cut, and a filling
+pub fitted-take : (n : ℕ) (os : List ℕ) → fitted n os ≡ take n os ++ replicate (n - length os) 0
+fitted-take zero os = rw (let k : 0 - length os ≡ 0 = omega arith in k)
+fitted-take (suc n) [] = rw (sub-zero (suc n)) (ap (λ (xs : List ℕ). 0 ∷ xs) (fitted-filled n [] (omega arith) ∙ ap (λ (k : ℕ). replicate k 0) (sub-zero n)))
+fitted-take (suc n) (o ∷ os) =
+    let k : suc n - suc (length os) ≡ n - length os = omega arith in
+    rw k (ap (λ (xs : List ℕ). o ∷ xs) (fitted-take n os))

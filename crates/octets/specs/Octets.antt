@@ -1,9 +1,5 @@
--- The octets that a row holds, and octets of a given count.
-use Rattle.std.specs.Prelude.{ℕ, zero, suc, List, [], ◌∷◌, take}
-use Rattle.octets.specs.declared.Octets.{Octets}
-
-abbrev pub octets : {n : ℕ} → Octets n → List ℕ
-octets o = take o.len o.items
+-- Octets of a given count.
+use Rattle.std.specs.Prelude.{ℕ, zero, suc, List, [], ◌∷◌}
 
 -- The first n octets of a list, filled up with 00.
 abbrev pub fitted : ℕ → List ℕ → List ℕ

@@ -1,94 +1,153 @@
-ghost use Rattle.std.specs.Prelude.{◌≡◌, ◌+◌, ◌<◌, ◌≤◌, [], ◌∷◌, ◌++◌, length, if◌then◌else◌, MatchOption, nat_le, nat_lt, slice_set};
-ghost use Rattle.octets.specs.Octets.{fitted, octets};
+ghost use Rattle.std.specs.Prelude.{⊤, ◌≡◌, ◌+◌, ◌<◌, ◌≤◌, ◌↔◌, [], ◌∷◌, ◌++◌, length, slice_get, slice_set, IsOk, OnOk, OnErr, MatchResult};
+ghost use Rattle.std.specs.List.{AllZip};
 
-use super::Octets;
+use crate::Fill;
+use std::alloc::AllocError;
+use std::error::Error;
+use std::marker::Model;
+use std::{fmt, mem};
 
-impl<const N: usize> Octets<N> {
-    /// No octets.
+/// At most N elements. Clauses see them as a list.
+// A vector of the kit's `arrayvec` is no `Copy`, and a message is copied like a number.
+#[derive(Copy, PartialEq, Eq, Debug)]
+pub struct Row<T: Fill, const N: usize> {
+    items: [T; N],
+    len: usize,
+}
+
+impl<T: Fill, const N: usize> Model for Row<T, N> {
+    ghost use Rattle.std.specs.Prelude.{◌-◌, ◌++◌, List, length, take, replicate};
+    ghost use Rattle.std.proofs.Common.{arith, length-take-le};
+    ghost use Rattle.octets.specs.Row.{IsRow, filled-take};
+
+    ghost Value = { List T };
+
+    ghost view = { λ row. take row.len row.items };
+
+    ghost invariant = { λ row. IsRow T.fill N row.len row.items };
+
+    ghost inverse = { λ items. record { items = items ++ replicate (N - length items) T.fill; len = length items } };
+
+    ghost inverse_ok = { λ row is i. record {
+      items = filled-take T.fill N row.len row.items is i;
+      len = length-take-le row.len row.items (omega (arith, is.full, is.room)) i;
+    } };
+}
+
+// A derived `clone` is not known to copy each element.
+impl<T: Fill, const N: usize> Clone for Row<T, N> {
+    ghost is_clone = { λ row copy. copy ≡ row };
+
+    ghost is_infallible = { λ _. ⊤ };
+
+    fn clone(&self) -> Result<Self, AllocError> {
+        Ok(*self)
+    }
+}
+
+/// There is no room left in a row.
+#[derive(Clone, Copy, PartialEq, Eq, Debug)]
+pub struct Full;
+
+impl fmt::Display for Full {
+    fn fmt<W: fmt::Write>(&self, f: &mut fmt::Formatter<W>) -> fmt::Result {
+        f.write_str("no room left in the row")
+    }
+}
+
+impl Error for Full {}
+
+impl<T: Fill, const N: usize> Row<T, N> {
+    /// No elements.
     pub fn new() -> Self
-        ensures { octets result ≡ [] }
+        ensures { result ≡ [] }
     {
-        Octets {
-            items: [0; N],
+        Row {
+            items: [T::fill(); N],
             len: 0,
         }
     }
 
-    /// The octets of a slice, if there is room for them.
-    pub fn from_slice(from: &[u8]) -> Option<Self>
-        ensures { MatchOption result (N < length from.now) (λ o. octets o ≡ from.now) }
+    /// One element more at the end. A full row stays as it is.
+    pub fn push(&mut self, item: T) -> Result<(), Full>
+        ensures room { IsOk result ↔ (length self.old < N) }
+        ensures after { OnOk result (self.new ≡ self.old ++ item ∷ []) }
+        ensures len { OnOk result (length self.new ≡ length self.old + 1) }
+        ensures full { OnErr result (self.new ≡ self.old) }
     {
-        if from.len() > N {
+        if self.len == N {
+            return Err(Full);
+        }
+        self.items[self.len] = item;
+        self.len += 1;
+        Ok(())
+    }
+
+    /// The elements of a slice at the end. Where there is no room for them the row stays as it is.
+    pub fn extend_from_slice(&mut self, items: &[T]) -> Result<(), Full>
+        ensures room { IsOk result ↔ (length self.old + length items.now ≤ N) }
+        ensures after { OnOk result (self.new ≡ self.old ++ items.now) }
+        ensures len { OnOk result (length self.new ≡ length self.old + length items.now) }
+        ensures full { OnErr result (self.new ≡ self.old) }
+    {
+        if items.len() > N - self.len {
+            return Err(Full);
+        }
+        for item in items {
+            self.push(*item)?;
+        }
+        Ok(())
+    }
+
+    /// Another element at a place, for the one that was there. Where the row has no such place it
+    /// stays as it is, and the answer is none.
+    pub fn put(&mut self, place: usize, item: T) -> Option<T>
+        ensures before { result ≡ slice_get self.old place }
+        ensures after { self.new ≡ slice_set self.old place item }
+    {
+        if place >= self.len {
             return None;
         }
-        let mut row = Octets::new();
-        row.append(from, from.len());
-        Some(row)
+        let before = self.items[place];
+        self.items[place] = item;
+        Some(before)
     }
 
-    /// One octet more at the end, and true; a full row stays as it is, and the answer is false.
-    pub fn push(&mut self, octet: u8) -> bool
-        ensures room { result ≡ nat_lt (length (octets self.old)) N }
-        ensures after { octets self.new ≡ (if result then octets self.old ++ octet ∷ [] else octets self.old) }
-        ensures len { length (octets self.new) ≡ (if result then length (octets self.old) + 1 else length (octets self.old)) }
+    /// What `f` makes of each element.
+    pub fn map<U: Fill, F: Fn(T) -> U>(&self, f: F) -> Row<U, N>
+        requires { F.IsAlwaysCallable f }
+        ensures { AllZip (F.post f) self.now result }
     {
-        let at = self.len;
-        if at >= N {
-            return false;
+        let mut row = Row::new();
+        for item in self.as_slice() {
+            row.push(f(*item)).unwrap();
         }
-        self.items[at] = octet;
-        self.len = at + 1;
-        true
+        row
     }
 
-    /// The first `count` octets of `more`, filled up with 00, at the end, and true; where there is
-    /// no room for them the row stays as it is, and the answer is false.
-    pub fn append(&mut self, more: &[u8], count: usize) -> bool
-        ensures room { result ≡ nat_le (length (octets self.old) + count) N }
-        ensures after { octets self.new ≡ (if result then octets self.old ++ fitted count more.now else octets self.old) }
-        ensures len { length (octets self.new) ≡ (if result then length (octets self.old) + count else length (octets self.old)) }
-    {
-        if count > N - self.len {
-            return false;
-        }
-        for i in 0..count {
-            let octet = if i < more.len() { more[i] } else { 0 };
-            self.push(octet);
-        }
-        true
-    }
-
-    /// Another octet at a place, and true; where the row has no such place it stays as it is, and
-    /// the answer is false.
-    pub fn put(&mut self, place: usize, octet: u8) -> bool
-        ensures within { result ≡ nat_lt place (length (octets self.old)) }
-        ensures after { octets self.new ≡ slice_set (octets self.old) place octet }
-    {
-        if !self.has_place(place) {
-            return false;
-        }
-        self.items[place] = octet;
-        true
-    }
-
-    fn has_place(&self, place: usize) -> bool
-        ensures { result ≡ nat_lt place (length (octets self.now)) }
-    {
-        place < self.len
-    }
-
-    pub fn as_slice(&self) -> &[u8]
-        ensures value { result.now ≡ octets self.now }
+    pub fn as_slice(&self) -> &[T]
+        ensures value { result.now ≡ self.now }
         ensures bound { length result.now ≤ N }
     {
-        let all = &self.items[..];
-        &all[0..self.len]
+        &self.items[..self.len]
     }
 
     pub fn len(&self) -> usize
-        ensures value { result ≡ length (octets self.now) }
+        ensures value { result ≡ length self.now }
         ensures bound { result ≤ N }
     {
         self.as_slice().len()
+    }
+}
+
+impl<T: Fill, const N: usize> TryFrom<&[T]> for Row<T, N> {
+    type Error = Full;
+
+    ghost try_from_gives = { λ from r. MatchResult r (λ row. (row ≡ from.now) × (length from.now ≤ N)) (λ _. N < length from.now) };
+
+    fn try_from(from: &[T]) -> Result<Self, Full> {
+        let mut row = Row::new();
+        row.extend_from_slice(from)?;
+        Ok(row)
     }
 }

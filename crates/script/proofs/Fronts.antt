@@ -1,34 +1,48 @@
--- Going through a text up to the first byte that passes a test.
-use Rattle.std.proofs.Common.{◌≡◌, ℕ, ◌+◌, ◌<◌, ◌≤◌, Bool, true, false, cond, List, [], ◌∷◌, ◌++◌, length, get_or, take, drop, sym, ap, ◌∙◌, append_assoc, append-nil, take_all}
+-- A text before and from the first byte that passes a test, as `position` finds its place.
+use Rattle.std.proofs.Common.{◌≡◌, ℕ, suc, ◌+◌, Bool, true, false, cond, not, List, [], ◌∷◌, length, take, drop, Option, Bor, Iter, refl, ap, ◌∙◌, arith}
+use denote.Param.Members.{Mut}
+use Rattle.std.specs.Fn.{Called}
+use Rattle.std.specs.Iterator.{FindsPosition}
+use Rattle.std.specs.List.{position, position_or_len}
+use Rattle.std.specs.Option.{unwrap_or}
+use Rattle.std.specs.Slice.Iter.{iter_rest}
+use Rattle.std.proofs.lemmas.Fn.{fronts}
+use Rattle.std.proofs.lemmas.Grind.{common_steps}
+use Rattle.std.proofs.lemmas.Iterator.{YieldsList-from_slice}
+use Rattle.std.proofs.lemmas.Iterator.Search.{position_from_yields_List}
+use Rattle.std.proofs.lemmas.List.Sums.{prefix_len-le-length}
 use Rattle.script.specs.Words.{onward, up_to}
-use Rattle.std.proofs.lemmas.List.{at_drop_all, at_drop_more, drop_more, take_more}
 
-module _ (p : ℕ → Bool) (xs : List ℕ) (i : ℕ) where
-  onward-step : i < length xs → onward p (drop i xs) ≡ cond (p (get_or xs i 0)) (get_or xs i 0 ∷ drop (i + 1) xs) (onward p (drop (i + 1) xs))
-  onward-step lt = at_drop_more (onward p) xs i 0 lt
+take-first : (passes : Bool) (n x : ℕ) (xs : List ℕ) → take (cond (not passes) (1 + n) 0) (x ∷ xs) ≡ cond passes [] (x ∷ take n xs)
+take-first true n x xs = refl
+take-first false n x xs = let e : 1 + n ≡ suc n = omega arith in ap (λ k. take k (x ∷ xs)) e
 
-  up_to-step : i < length xs → up_to p (drop i xs) ≡ cond (p (get_or xs i 0)) [] (get_or xs i 0 ∷ up_to p (drop (i + 1) xs))
-  up_to-step lt = at_drop_more (up_to p) xs i 0 lt
+drop-first : (passes : Bool) (n x : ℕ) (xs : List ℕ) → drop (cond (not passes) (1 + n) 0) (x ∷ xs) ≡ cond passes (x ∷ xs) (drop n xs)
+drop-first true n x xs = refl
+drop-first false n x xs = let e : 1 + n ≡ suc n = omega arith in ap (λ k. drop k (x ∷ xs)) e
 
-  pub onward-again : i < length xs → p (get_or xs i 0) ≡ false → onward p xs ≡ onward p (drop i xs) → onward p xs ≡ onward p (drop (i + 1) xs)
-  onward-again lt e inv = inv ∙ onward-step lt ∙ ap (λ b. cond b (get_or xs i 0 ∷ drop (i + 1) xs) (onward p (drop (i + 1) xs))) e
+module _ (p : ℕ → Bool) where
+  take-position : (xs : List ℕ) → take (position_or_len p xs) xs ≡ up_to p xs
+  take-position [] = refl
+  take-position (x ∷ xs) = rw (← take-position xs) (take-first (p x) _ x xs)
 
-  pub onward-stop : i < length xs → p (get_or xs i 0) ≡ true → onward p xs ≡ onward p (drop i xs) → onward p xs ≡ drop i xs
-  onward-stop lt e inv = inv ∙ onward-step lt ∙ ap (λ b. cond b (get_or xs i 0 ∷ drop (i + 1) xs) (onward p (drop (i + 1) xs))) e ∙ sym (drop_more xs i 0 lt)
+  drop-position : (xs : List ℕ) → drop (position_or_len p xs) xs ≡ onward p xs
+  drop-position [] = refl
+  drop-position (x ∷ xs) = rw (← drop-position xs) (drop-first (p x) _ x xs)
 
-  pub onward-all : length xs ≤ i → onward p xs ≡ onward p (drop i xs) → onward p xs ≡ []
-  onward-all all inv = inv ∙ at_drop_all (onward p) xs i all
+  position-or_length : (xs : List ℕ) → unwrap_or (position p xs) (length xs) ≡ position_or_len p xs
+  position-or_length xs = grind (arith, common_steps, prefix_len-le-length (λ x. not (p x)) xs)
 
-  pub up_to-again : i < length xs → p (get_or xs i 0) ≡ false → up_to p xs ≡ take i xs ++ up_to p (drop i xs) → up_to p xs ≡ take (i + 1) xs ++ up_to p (drop (i + 1) xs)
-  up_to-again lt e inv =
-      inv
-      ∙ ap (λ (l : List ℕ). take i xs ++ l) (up_to-step lt ∙ ap (λ b. cond b [] (get_or xs i 0 ∷ up_to p (drop (i + 1) xs))) e)
-      ∙ sym (append_assoc (take i xs) (get_or xs i 0 ∷ []) (up_to p (drop (i + 1) xs)))
-      ∙ ap (λ (l : List ℕ). l ++ up_to p (drop (i + 1) xs)) (sym (take_more xs i 0 lt))
+-- what stands before a place and from there on, or where there is none, all and nothing
+pub record IsCutAt (place : Option ℕ) (p : ℕ → Bool) (text : List ℕ) : Type 0 where
+  pub front : take (unwrap_or place (length text)) text ≡ up_to p text
+  pub back : drop (unwrap_or place (length text)) text ≡ onward p text
 
-  pub up_to-stop : i < length xs → p (get_or xs i 0) ≡ true → up_to p xs ≡ take i xs ++ up_to p (drop i xs) → up_to p xs ≡ take i xs
-  up_to-stop lt e inv =
-      inv ∙ ap (λ (l : List ℕ). take i xs ++ l) (up_to-step lt ∙ ap (λ b. cond b [] (get_or xs i 0 ∷ up_to p (drop (i + 1) xs))) e) ∙ append-nil (take i xs)
-
-  pub up_to-all : length xs ≤ i → up_to p xs ≡ take i xs ++ up_to p (drop i xs) → up_to p xs ≡ xs
-  up_to-all all inv = inv ∙ ap (λ (l : List ℕ). take i xs ++ l) (at_drop_all (up_to p) xs i all) ∙ append-nil (take i xs) ∙ take_all i xs all
+pub IsCutAt-from_position : {F : Type 0} {g : Mut F (Bor ℕ × Unit {0}) Bool} {s u : Iter ℕ} {f : F} {place : Option ℕ} (p : ℕ → Bool) (text : List ℕ) → FindsPosition fronts g s f place u → iter_rest s ≡ text → ((x : Bor ℕ) (b : Bool) (q : F) → Called g f (x, tt) b q → (q ≡ f) × (b ≡ p x.now)) → IsCutAt place p text
+IsCutAt-from_position p text ran all computes =
+    let found = position_from_yields_List p _ _ _ ran (YieldsList-from_slice text all) computes in
+    let place = ap (λ r. unwrap_or r (length text)) found ∙ position-or_length p text in
+    record {
+      front = ap (λ n. take n text) place ∙ take-position p text;
+      back = ap (λ n. drop n text) place ∙ drop-position p text;
+    }

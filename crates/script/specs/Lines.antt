@@ -71,3 +71,9 @@ pub record IsCommand (text : List ℕ) (command : Command) : Type 0 where
   pub named : first_word text ≡ name_of command
   pub says : Says command (after_word text)
   pub ends : word_at (count command) (after_word text) ≡ []
+
+-- A command of this name is what a text begins with, and what follows it is left.
+pub record ReadsCommand (name old new : List ℕ) (command : Command) : Type 0 where
+  pub named : name ≡ name_of command
+  pub says : Says command old
+  pub rest : new ≡ after_words (count command) old

@@ -1,16 +1,16 @@
 //! The commands of a script.
-ghost use Rattle.std.specs.Prelude.{◌≡◌, [], IfOk, codes, MatchOption};
-ghost use Rattle.script.specs.Lines.{IsCommand, Says, after_words, count, name_of};
+ghost use Rattle.std.specs.Prelude.{◌≡◌, [], IfOk, None, Ok, codes, MatchOption};
+ghost use Rattle.script.specs.Lines.{IsCommand, ReadsCommand};
 ghost use Rattle.script.specs.Words.{first_word, said};
 
 use crate::mistake::{Mistake, Part};
 use crate::reader::Words;
-use crate::word::{is_word, without_comment};
+use crate::word::without_comment;
 use control::Control;
 use isdu::service::Service;
 use std::alloc::Global;
 
-#[derive(Drop)]
+#[derive(PartialEq, Eq, Debug, Drop)]
 pub enum Command {
     /// Opens a line for single messages.
     OpenFrame {
@@ -63,16 +63,13 @@ pub enum Command {
 
 /// The command of a line, if it has one.
 pub fn parse_line(heap: Global, line: &[u8]) -> Result<Option<Command>, Mistake>
-    ensures { IfOk result (λ o. MatchOption o (first_word (said line.now) ≡ []) (IsCommand (said line.now))) }
+    ensures command { IfOk result (λ o. MatchOption o (first_word (said line.now) ≡ []) (IsCommand (said line.now))) }
+    ensures empty { first_word (said line.now) ≡ [] → result ≡ Ok None }
 {
-    let mut words = Words {
-        heap,
-        rest: without_comment(line),
-    };
-    let name = words.next_word();
-    if name.len() == 0 {
+    let mut words = Words::new(heap, without_comment(line));
+    let Some(name) = words.next_word() else {
         return Ok(None);
-    }
+    };
     let command = arguments(name, &mut words)?;
     words.end()?;
     Ok(Some(command))
@@ -80,130 +77,100 @@ pub fn parse_line(heap: Global, line: &[u8]) -> Result<Option<Command>, Mistake>
 
 // The command of a name with the words that follow it.
 fn arguments(name: &[u8], words: &mut Words<'_>) -> Result<Command, Mistake>
-    ensures named { IfOk result (λ c. name.now ≡ name_of c) }
-    ensures says { IfOk result (λ c. Says c words.old.rest.now) }
-    ensures rest { IfOk result (λ c. words.new.rest.now ≡ after_words (count c) words.old.rest.now) }
+    ensures { IfOk result (ReadsCommand name.now words.old words.new) }
 {
-    if is_word(name, b"open") {
-        open(words)
-    } else if is_word(name, b"message") {
-        message(words)
-    } else if is_word(name, b"answer") {
-        answer(words)
-    } else if is_word(name, b"put") {
-        put(words)
-    } else if is_word(name, b"reply") {
-        reply(words)
-    } else if is_word(name, b"request") {
-        request(words)
-    } else if is_word(name, b"response") {
-        response(words)
-    } else if is_word(name, b"encode") {
-        encode(words)
-    } else {
-        Err(Mistake::NoCommand(String::from_utf8_lossy(words.heap, name)?))
+    match name {
+        b"open" => open(words),
+        b"message" => message(words),
+        b"answer" => answer(words),
+        b"put" => put(words),
+        b"reply" => reply(words),
+        b"request" => request(words),
+        b"response" => response(words),
+        b"encode" => encode(words),
+        other => Err(Mistake::NoCommand(words.quoted(other)?)),
     }
 }
 
 fn open(words: &mut Words<'_>) -> Result<Command, Mistake>
-    ensures named { IfOk result (λ c. name_of c ≡ codes "open") }
-    ensures says { IfOk result (λ c. Says c words.old.rest.now) }
-    ensures rest { IfOk result (λ c. words.new.rest.now ≡ after_words (count c) words.old.rest.now) }
+    ensures { IfOk result (ReadsCommand (codes "open") words.old words.new) }
 {
-    let kind = words.word(Part::Kind)?;
-    if !is_word(kind, b"frame") {
-        return Err(Mistake::NoKind(String::from_utf8_lossy(words.heap, kind)?));
+    match words.word(Part::Kind)? {
+        b"frame" => Ok(Command::OpenFrame {
+            od: words.count(Part::OnRequestCount)?,
+            pd_in: words.count(Part::InputCount)?,
+            pd_out: words.count(Part::OutputCount)?,
+        }),
+        other => Err(Mistake::NoKind(words.quoted(other)?)),
     }
-    let od = words.count(Part::OnRequestCount)?;
-    let pd_in = words.count(Part::InputCount)?;
-    let pd_out = words.count(Part::OutputCount)?;
-    Ok(Command::OpenFrame { od, pd_in, pd_out })
 }
 
 fn message(words: &mut Words<'_>) -> Result<Command, Mistake>
-    ensures named { IfOk result (λ c. name_of c ≡ codes "message") }
-    ensures says { IfOk result (λ c. Says c words.old.rest.now) }
-    ensures rest { IfOk result (λ c. words.new.rest.now ≡ after_words (count c) words.old.rest.now) }
+    ensures { IfOk result (ReadsCommand (codes "message") words.old words.new) }
 {
-    let record = words.record()?;
-    Ok(Command::Message { record })
+    Ok(Command::Message {
+        record: words.record()?,
+    })
 }
 
 fn answer(words: &mut Words<'_>) -> Result<Command, Mistake>
-    ensures named { IfOk result (λ c. name_of c ≡ codes "answer") }
-    ensures says { IfOk result (λ c. Says c words.old.rest.now) }
-    ensures rest { IfOk result (λ c. words.new.rest.now ≡ after_words (count c) words.old.rest.now) }
+    ensures { IfOk result (ReadsCommand (codes "answer") words.old words.new) }
 {
-    let control = words.control()?;
-    let record = words.record()?;
-    Ok(Command::Answer { control, record })
+    Ok(Command::Answer {
+        control: words.control()?,
+        record: words.record()?,
+    })
 }
 
 fn put(words: &mut Words<'_>) -> Result<Command, Mistake>
-    ensures named { IfOk result (λ c. name_of c ≡ codes "put") }
-    ensures says { IfOk result (λ c. Says c words.old.rest.now) }
-    ensures rest { IfOk result (λ c. words.new.rest.now ≡ after_words (count c) words.old.rest.now) }
+    ensures { IfOk result (ReadsCommand (codes "put") words.old words.new) }
 {
-    let control = words.control()?;
-    let outputs = words.octets(Part::Outputs)?;
-    let on_request = words.octets(Part::OnRequest)?;
     Ok(Command::Put {
-        control,
-        outputs,
-        on_request,
+        control: words.control()?,
+        outputs: words.octets(Part::Outputs)?,
+        on_request: words.octets(Part::OnRequest)?,
     })
 }
 
 fn reply(words: &mut Words<'_>) -> Result<Command, Mistake>
-    ensures named { IfOk result (λ c. name_of c ≡ codes "reply") }
-    ensures says { IfOk result (λ c. Says c words.old.rest.now) }
-    ensures rest { IfOk result (λ c. words.new.rest.now ≡ after_words (count c) words.old.rest.now) }
+    ensures { IfOk result (ReadsCommand (codes "reply") words.old words.new) }
 {
-    let control = words.control()?;
-    let on_request = words.octets(Part::OnRequest)?;
-    let inputs = words.octets(Part::Inputs)?;
-    let event = words.flag(Part::EventFlag)?;
-    let invalid = words.flag(Part::InvalidMark)?;
     Ok(Command::Reply {
-        control,
-        on_request,
-        inputs,
-        event,
-        invalid,
+        control: words.control()?,
+        on_request: words.octets(Part::OnRequest)?,
+        inputs: words.octets(Part::Inputs)?,
+        event: words.flag(Part::EventFlag)?,
+        invalid: words.flag(Part::InvalidMark)?,
     })
 }
 
 fn request(words: &mut Words<'_>) -> Result<Command, Mistake>
-    ensures named { IfOk result (λ c. name_of c ≡ codes "request") }
-    ensures says { IfOk result (λ c. Says c words.old.rest.now) }
-    ensures rest { IfOk result (λ c. words.new.rest.now ≡ after_words (count c) words.old.rest.now) }
+    ensures { IfOk result (ReadsCommand (codes "request") words.old words.new) }
 {
-    let octets = words.octets(Part::Octets)?;
-    Ok(Command::Request { octets })
+    Ok(Command::Request {
+        octets: words.octets(Part::Octets)?,
+    })
 }
 
 fn response(words: &mut Words<'_>) -> Result<Command, Mistake>
-    ensures named { IfOk result (λ c. name_of c ≡ codes "response") }
-    ensures says { IfOk result (λ c. Says c words.old.rest.now) }
-    ensures rest { IfOk result (λ c. words.new.rest.now ≡ after_words (count c) words.old.rest.now) }
+    ensures { IfOk result (ReadsCommand (codes "response") words.old words.new) }
 {
-    let service = words.service()?;
-    let octets = words.octets(Part::Octets)?;
-    Ok(Command::Response { service, octets })
+    Ok(Command::Response {
+        service: words.service()?,
+        octets: words.octets(Part::Octets)?,
+    })
 }
 
 fn encode(words: &mut Words<'_>) -> Result<Command, Mistake>
-    ensures named { IfOk result (λ c. name_of c ≡ codes "encode") }
-    ensures says { IfOk result (λ c. Says c words.old.rest.now) }
-    ensures rest { IfOk result (λ c. words.new.rest.now ≡ after_words (count c) words.old.rest.now) }
+    ensures { IfOk result (ReadsCommand (codes "encode") words.old words.new) }
 {
     let service = words.service()?;
     let address = words.address()?;
     match service {
         Service::Read => Ok(Command::EncodeRead { address }),
-        Service::Write => {
-            let octets = words.octets(Part::Octets)?;
-            Ok(Command::EncodeWrite { address, octets })
-        }
+        Service::Write => Ok(Command::EncodeWrite {
+            address,
+            octets: words.octets(Part::Octets)?,
+        }),
     }
 }

@@ -1,5 +1,9 @@
 //! What can be wrong with a line of a script.
+ghost use Rattle.std.specs.Prelude.{◌≡◌};
+ghost use Rattle.script.specs.declared.mistake.Mistake.TheVariants.{Memory};
+
 use std::alloc::AllocError;
+use std::error::Error;
 use std::fmt;
 use text::flaw::Flaw;
 
@@ -46,7 +50,7 @@ impl fmt::Display for Part {
     }
 }
 
-#[derive(Debug, Drop)]
+#[derive(PartialEq, Eq, Debug, Drop)]
 pub enum Mistake {
     /// No command has this name.
     NoCommand(String),
@@ -69,6 +73,8 @@ pub enum Mistake {
 }
 
 impl From<AllocError> for Mistake {
+    ghost from_gives = { λ _ mistake. mistake ≡ Memory };
+
     fn from(_e: AllocError) -> Mistake {
         Mistake::Memory
     }
@@ -87,3 +93,5 @@ impl fmt::Display for Mistake {
         }
     }
 }
+
+impl Error for Mistake {}

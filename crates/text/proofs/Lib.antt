@@ -1,5 +1,5 @@
 mod Dots
 mod Glyphs
 mod Hexes
+mod Reading
 mod Values
-mod Writing

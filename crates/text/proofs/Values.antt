@@ -2,7 +2,7 @@
 use Rattle.std.proofs.Common.{◌≡◌, ℕ, ◌+◌, ◌*◌, ◌<◌, ◌≤◌, cond, List, [], ◌∷◌, length, get_or, drop, Some, None, Option, sym, refl, ap, ◌∙◌, mul-le-mul_left, mul-one, arith, ne_eqb}
 use Rattle.text.specs.Digit.{digit}
 use Rattle.text.specs.Number.{below, on, value, value_after}
-use Rattle.std.proofs.lemmas.List.{at_drop_more, at_drop_all}
+use Rattle.std.proofs.lemmas.List.{at_drop_more}
 
 after_none : (radix : ℕ) (bs : List ℕ) → value_after radix None bs ≡ None
 after_none radix [] = refl
@@ -32,9 +32,6 @@ some-value radix xs some = ap (λ b. cond b None (value_after radix (Some 0) xs)
 
 pub value_none : (radix n : ℕ) (xs : List ℕ) (i : ℕ) → i < length xs → None ≡ below radix (digit (get_or xs i 0)) → value_after radix (Some 0) xs ≡ value_after radix (Some n) (drop i xs) → value_after radix (Some 0) xs ≡ None
 value_none radix n xs i lt e inv = inv ∙ step radix n xs i lt ∙ ap (λ (o : Option ℕ). value_after radix (on radix n o) (drop (i + 1) xs)) (sym e) ∙ after_none radix (drop (i + 1) xs)
-
-pub value-all : (radix n : ℕ) (xs : List ℕ) (i : ℕ) → length xs ≤ i → value_after radix (Some 0) xs ≡ value_after radix (Some n) (drop i xs) → value_after radix (Some 0) xs ≡ Some n
-value-all radix n xs i all inv = inv ∙ at_drop_all (value_after radix (Some n)) xs i all
 
 -- what is read so far is no more than the number
 pub value-ge : (radix n d : ℕ) (xs : List ℕ) (i m : ℕ) → 0 < radix → i < length xs → Some d ≡ below radix (digit (get_or xs i 0)) → value_after radix (Some 0) xs ≡ value_after radix (Some n) (drop i xs) → value_after radix (Some 0) xs ≡ Some m → n * radix + d ≤ m

@@ -1,60 +1,31 @@
-//! Hexadecimal digits.
-ghost use Rattle.std.specs.Prelude.{◌≡◌, ◌<◌, [], ◌∷◌, IfSome};
-ghost use Rattle.text.specs.Digit.{digit, glyph};
+//! Digits of a word.
+ghost use Rattle.std.specs.Prelude.{◌≡◌, ◌<◌, ◌≤◌, IfSome};
+ghost use Rattle.text.specs.Digit.{digit};
+ghost use Rattle.text.specs.Number.{below};
 ghost use Rattle.text.specs.Text.{more};
-ghost use Rattle.std.specs.Fmt.{WritesOnOk};
 
-use std::fmt;
-
-/// The value of a digit, in upper or lower case.
-pub(crate) fn digit_value(b: u8) -> Option<u8>
-    ensures value { result ≡ digit b }
-    ensures bound { IfSome result (λ d. d < 16) }
+/// The value of a digit of a radix, in upper or lower case.
+pub(crate) fn digit_below(radix: u32, b: u8) -> Option<u32>
+    requires least { 2 ≤ radix }
+    requires most { radix ≤ 16 }
+    ensures value { result ≡ below radix (digit b) }
+    ensures bound { IfSome result (λ d. d < radix) }
 {
-    match b {
-        b'0'..=b'9' => Some(b - b'0'),
-        b'A'..=b'F' => Some(b - b'A' + 10),
-        b'a'..=b'f' => Some(b - b'a' + 10),
-        _ => None,
-    }
+    char::from(b).to_digit(radix)
 }
 
-/// The number of two digits.
+/// The number of two hexadecimal digits.
 pub(crate) fn two_digits(high: u8, low: u8) -> Option<u8>
     ensures { result ≡ more (digit high) (digit low) }
 {
-    match (digit_value(high), digit_value(low)) {
-        (Some(h), Some(l)) => Some(16 * h + l),
-        _ => None,
-    }
+    let number = 16 * digit_below(16, high)? + digit_below(16, low)?;
+    Some(number as u8)
 }
 
-/// The number of three digits.
+/// The number of three hexadecimal digits: of two, and one more.
 pub(crate) fn three_digits(high: u8, middle: u8, low: u8) -> Option<u16>
     ensures { result ≡ more (more (digit high) (digit middle)) (digit low) }
 {
-    match (two_digits(high, middle), digit_value(low)) {
-        (Some(front), Some(l)) => Some(16 * u16::from(front) + u16::from(l)),
-        _ => None,
-    }
-}
-
-/// Writes the digit of a value, in upper case.
-pub(crate) fn write_digit<W: fmt::Write>(f: &mut fmt::Formatter<W>, value: u8) -> fmt::Result
-    requires { value < 16 }
-    ensures { WritesOnOk W.write_str_gives f.old result (glyph value ∷ []) f.new }
-{
-    f.write_char(digit_glyph(value))
-}
-
-fn digit_glyph(value: u8) -> char
-    requires { value < 16 }
-    ensures value { result ≡ glyph value }
-    ensures ascii { result < 128 }
-{
-    (if value < 10 {
-        b'0' + value
-    } else {
-        b'A' + (value - 10)
-    }) as char
+    let front = two_digits(high, middle)?;
+    Some(16 * u16::from(front) + digit_below(16, low)? as u16)
 }

@@ -3,7 +3,7 @@ ghost use Rattle.std.specs.Prelude.{◌≡◌};
 ghost use Rattle.text.specs.declared.flaw.Flaw.TheVariants.{Memory};
 
 use std::alloc::{AllocError, AllocFailed};
-use std::fmt;
+use std::{error, fmt};
 
 #[derive(Clone, Copy, PartialEq, Eq, Debug)]
 pub enum Flaw {
@@ -53,3 +53,5 @@ impl fmt::Display for Flaw {
         f.write_str(text)
     }
 }
+
+impl error::Error for Flaw {}

@@ -3,6 +3,7 @@
 
 use crate::row::Row;
 use crate::tally::Tally;
+use crate::trouble::Trouble;
 use crate::verdict::Verdict;
 use std::io::Read;
 use worked::worked_cases;
@@ -11,6 +12,7 @@ mod frames;
 mod row;
 mod tally;
 mod task;
+mod trouble;
 mod verdict;
 
 fn main(rt: HostRuntime) -> anyhow::Result<()> {
@@ -20,7 +22,7 @@ fn main(rt: HostRuntime) -> anyhow::Result<()> {
 fn run(rt: &HostRuntime) -> anyhow::Result<()> {
     let mut table = String::new(rt.alloc());
     rt.stdin().read_to_string(&mut table)?;
-    let mut tally = Tally::new();
+    let mut tally = Tally::default();
     for line in table.as_str().lines() {
         if let Some(row) = Row::parse(line) {
             let same = compare(rt, &row)?;
@@ -35,7 +37,11 @@ fn run(rt: &HostRuntime) -> anyhow::Result<()> {
 
 // Prints whether what a row asks for gives what it expects.
 fn compare(rt: &HostRuntime, row: &Row<'_>) -> anyhow::Result<bool> {
-    let got = task::found(rt.alloc(), row.task, row.expected)?;
+    let got = match task::found(rt.alloc(), row.task, row.expected) {
+        Ok(text) => text,
+        Err(trouble @ Trouble::Memory) => return Err(trouble.into()),
+        Err(trouble) => trouble.to_string(rt.alloc())?,
+    };
     let verdict = Verdict {
         name: row.name,
         expected: row.expected,

@@ -1,20 +1,13 @@
 //! How many vectors there are, and how many differ.
 use std::fmt;
 
-#[derive(Clone, Copy)]
+#[derive(Clone, Copy, Default)]
 pub struct Tally {
     vectors: u64,
     differing: u64,
 }
 
 impl Tally {
-    pub fn new() -> Tally {
-        Tally {
-            vectors: 0,
-            differing: 0,
-        }
-    }
-
     pub fn count(&mut self, same: bool) {
         self.vectors = self.vectors.saturating_add(1);
         if !same {

@@ -1,17 +1,14 @@
-ghost use Rattle.std.specs.Prelude.{◌≡◌, ◌+◌, ◌≤◌, IfOk, None, Ok, OnOk};
-ghost use Rattle.characters.specs.Characters.{characters};
+ghost use Rattle.std.specs.Prelude.{◌≡◌, ◌+◌, ◌≤◌, IfOk, Some, None, Ok, OnOk, MatchResult};
 ghost use Rattle.frame.specs.Disturbed.{Sturdy};
-ghost use Rattle.characters.specs.Fault.{first_of};
-ghost use Rattle.frame.specs.Message.{answer_octets, answer_parts, answer_tests, answered_od, status_bits};
-ghost use Rattle.octets.specs.Octets.{octets};
-ghost use Rattle.frame.specs.View.{answer_view, answered_by, answered_fault, heard, returned_by, taken_by};
+ghost use Rattle.frame.specs.Message.{answer_parts, answered_od, status_bits};
+ghost use Rattle.frame.specs.View.{answer_view, answered_by, answered_fault, answered_octets, answered_test, heard, returned_by, taken_by};
 
 use super::Codec;
-use super::seal::{sealed_characters, short_row};
+use super::seal::sealed_characters;
 use crate::check::checksum;
 use crate::message::Answer;
-use characters::Characters;
 use characters::fault::Fault;
+use characters::{Characters, MOST};
 use control::channel::Access;
 use octets::Octets;
 
@@ -19,9 +16,7 @@ use octets::Octets;
 fn status_bits(event: bool, invalid: bool) -> u8
     ensures { result ≡ status_bits event invalid }
 {
-    let flag = if event { 0x80 } else { 0 };
-    let mark = if invalid { 0x40 } else { 0 };
-    flag + mark
+    u8::from(event) * 0x80 + u8::from(invalid) * 0x40
 }
 
 impl Codec {
@@ -39,8 +34,8 @@ impl Codec {
     /// The characters of the answer to an access. On-request octets and inputs are cut or filled
     /// up with 00 to what the line carries.
     pub fn write_answer(&self, access: Access, answer: &Answer) -> Characters
-        ensures value { characters result ≡ answered_by self.now access (answer_view answer.now) }
-        ensures back { taken_by self.now access (characters result) ≡ Ok (returned_by self.now access (answer_view answer.now)) }
+        ensures value { result ≡ answered_by self.now access (answer_view answer.now) }
+        ensures back { taken_by self.now access result ≡ Ok (returned_by self.now access (answer_view answer.now)) }
     {
         sealed_characters(self.answer_row(access, answer), self.status_place(access))
     }
@@ -54,55 +49,55 @@ impl Codec {
     }
 
     // The octets of an answer, the check's six bits 0.
-    fn answer_row(&self, access: Access, answer: &Answer) -> Octets<66>
-        ensures { octets result ≡ answer_octets self.now.lengths.od self.now.lengths.pd_in access (answer_view answer.now) }
+    fn answer_row(&self, access: Access, answer: &Answer) -> Octets<MOST>
+        ensures { result ≡ answered_octets self.now access (answer_view answer.now) }
     {
         let mut row = Octets::new();
-        row.append(answer.on_request.as_slice(), self.answered(access));
-        row.append(answer.inputs.as_slice(), self.lengths.pd_in());
-        row.push(status_bits(answer.event, answer.invalid));
+        row.append(answer.on_request.as_slice(), self.answered(access))
+            .unwrap();
+        row.append(answer.inputs.as_slice(), self.lengths.pd_in())
+            .unwrap();
+        row.push(status_bits(answer.event, answer.invalid)).unwrap();
         row
     }
 
     /// The answer to an access, or the first fault.
     pub fn read_answer(&self, access: Access, record: &Characters) -> Result<Answer, Fault>
-        ensures value { heard answer_view result ≡ taken_by self.now access (characters «record».now) }
-        ensures written { IfOk result (λ m. characters «record».now ≡ answered_by self.now access (answer_view m)) }
-        ensures sturdy { OnOk result (Sturdy (answered_fault self.now access) (characters «record».now)) }
+        ensures value { heard answer_view result ≡ taken_by self.now access «record».now }
+        ensures written { IfOk result (λ m. «record».now ≡ answered_by self.now access (answer_view m)) }
+        ensures sturdy { OnOk result (Sturdy (answered_fault self.now access) «record».now) }
     {
         let row = record.octets()?;
         let octets = row.as_slice();
-        match self.answer_fault(access, octets) {
-            Some(fault) => Err(fault),
-            None => Ok(self.answer_parts(access, octets)),
-        }
+        self.test_answer(access, octets)?;
+        Ok(self.answer_parts(access, octets))
     }
 
     // The first fault of the octets: length, check.
-    fn answer_fault(&self, access: Access, octets: &[u8]) -> Option<Fault>
-        ensures { result ≡ first_of (answer_tests self.now.lengths.od self.now.lengths.pd_in access octets.now) }
+    fn test_answer(&self, access: Access, octets: &[u8]) -> Result<(), Fault>
+        ensures { MatchResult result (λ _. answered_test self.now access octets.now ≡ None) (λ f. answered_test self.now access octets.now ≡ Some f) }
     {
         let place = self.status_place(access);
         if octets.len() != place + 1 {
-            Some(Fault::Length(octets.len()))
+            Err(Fault::Length(octets.len()))
         } else if octets[place] % 64 != checksum(octets, place) {
-            Some(Fault::Check)
+            Err(Fault::Check)
         } else {
-            None
+            Ok(())
         }
     }
 
     // What octets with no fault say.
     fn answer_parts(&self, access: Access, octets: &[u8]) -> Answer
-        requires { first_of (answer_tests self.now.lengths.od self.now.lengths.pd_in access octets.now) ≡ None }
+        requires { answered_test self.now access octets.now ≡ None }
         ensures { answer_view result ≡ answer_parts self.now.lengths.od self.now.lengths.pd_in access octets.now }
     {
         let answered = self.answered(access);
         let place = self.status_place(access);
         let status = octets[place];
         Answer {
-            on_request: short_row(&octets[0..answered]),
-            inputs: short_row(&octets[answered..place]),
+            on_request: Octets::try_from(&octets[0..answered]).unwrap(),
+            inputs: Octets::try_from(&octets[answered..place]).unwrap(),
             event: status / 128 % 2 == 1,
             invalid: status / 64 % 2 == 1,
         }

@@ -1,31 +1,19 @@
-ghost use Rattle.std.specs.Prelude.{◌≡◌, ◌+◌, ◌%◌, ◌<◌, ◌≤◌, length, slice_index};
-ghost use Rattle.characters.specs.Characters.{characters};
+ghost use Rattle.std.specs.Prelude.{◌≡◌, ◌+◌, ◌%◌, ◌<◌, length, slice_index, All};
 ghost use Rattle.frame.specs.Message.{sealed};
-ghost use Rattle.octets.specs.Octets.{octets};
 
 use crate::check::checksum;
-use characters::Characters;
+use characters::{Characters, MOST};
 use octets::Octets;
 
 /// The octets as characters, with the check added to the octet at `place`.
-pub(super) fn sealed_characters(mut row: Octets<66>, place: usize) -> Characters
-    requires within { place < length (octets row) }
-    requires clear { slice_index (octets row) place % 64 ≡ 0 }
-    ensures { characters result ≡ sealed place (octets row) }
+pub(super) fn sealed_characters(mut row: Octets<MOST>, place: usize) -> Characters
+    requires within { place < length row }
+    requires clear { slice_index row place % 64 ≡ 0 }
+    ensures value { result ≡ sealed place row }
+    ensures octets { All (λ o. o < 256) row }
 {
     let open = row.as_slice();
     let carrier = open[place] + checksum(open, place);
     row.put(place, carrier);
-    Characters::from_octets(&row)
-}
-
-/// Octets that are known to be few.
-pub(super) fn short_row(from: &[u8]) -> Octets<32>
-    requires { length from.now ≤ 32 }
-    ensures { octets result ≡ from.now }
-{
-    match Octets::from_slice(from) {
-        Some(row) => row,
-        None => unreachable(),
-    }
+    Characters::from(&row)
 }

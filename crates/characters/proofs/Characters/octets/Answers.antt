@@ -1,43 +1,28 @@
--- The characters gone through are right, and the row has their octets.
-use Rattle.std.proofs.Common.{◌≡◌, ℕ, true, List, [], ◌∷◌, map, None, refl, ap, ◌∙◌, arith, take_all}
-use Rattle.octets.specs.Octets.{octets}
-use Rattle.characters.specs.Character.{character, octet}
-use Rattle.characters.specs.Characters.{characters}
+-- No character is odd, so each is the one of its octet.
+use Rattle.std.proofs.Common.{rules, ◌≡◌, ◌<◌, [], ◌∷◌, map, None, ap, sym, ◌∙◌}
+use Rattle.octets.proofs.Rows.{map-zip}
+use Rattle.std.proofs.lemmas.List.Elements.{recursion_from_All, All-from_recursion}
+use Rattle.std.specs.List.{AllByRecursion}
+use Rattle.characters.specs.Character.{Char, octet, character, odd_from}
 use Rattle.characters.specs.Fault.{first_of, odd, silent}
-use Rattle.characters.proofs.Loads.{record-nine}
 use Rattle.characters.proofs.OneToOne.{coded-octets}
-use Rattle.characters.proofs.Parity.{odd-more, parity-fault, parity-good}
-use Rattle.characters.proofs.Right.{all_right}
-use Rattle.characters.proofs.Rows.{found-room, grown-more, pushed}
+use Rattle.characters.proofs.Right.{all_right, no-fault}
 use Rattle.characters.proofs.Characters.octets.Goals as goal
 
-pub returns-then-character-ne0 : goal.returns-then-character-ne0
-returns-then-character-ne0 c =
-    record {
-      cases = parity-fault _ _ c.loop-place.place c.as_slice-characters.ensures.value c.loop-place-test.true c.if-character-ne0.true c.loop-place.invariant.0;
-      back = tt;
-    }
+good : (c : goal.After-map) → first_of (silent c.args.self.now ∷ odd c.args.self.now ∷ []) ≡ None
+good c = no-fault c.args.self.now (search rules) (ap (odd_from 0) (sym c.as_slice-characters.ensures.value) ∙ sym c.odd_place.ensures ∙ c.in-None.is)
 
-pub loop-place-preserved : goal.loop-place-preserved
-loop-place-preserved c =
-    let cs : List ℕ = c.as_slice-characters.result.now in
-    let i : ℕ = c.loop-place.place in
-    let found : c.push.result ≡ true =
-    found-room octet cs _ i 66 _ c.loop-place-test.true c.as_slice-characters.ensures.bound c.loop-place.invariant.1 c.push.ensures.room in (
-      odd-more cs i c.loop-place-test.true c.if-character-ne0.false c.loop-place.invariant.0,
-      grown-more octet cs _ _ i _ c.loop-place-test.true refl (pushed _ _ _ _ found c.push.ensures.after) c.loop-place.invariant.1,
-    )
+made : (c : goal.After-map) → c.map.result ≡ map octet c.args.self.now
+made c = map-zip _ octet _ _ (λ ch o h. search rules) c.map.ensures ∙ ap (map octet) c.self.view_is
 
-pub returns : goal.returns
-returns c =
-    let xs : List ℕ = c.as_slice-characters.result.now in
-    let cs : List ℕ = characters c.args.self.now in
-    let i : ℕ = c.loop-place.place in
-    let good : first_of (silent cs ∷ odd cs ∷ []) ≡ None =
-    parity-good xs cs i c.as_slice-characters.ensures.value (omega arith) c.loop-place-test.false c.loop-place.invariant.0 in
-    let row : octets c.loop-place.row ≡ map octet cs =
-    c.loop-place.invariant.1 ∙ ap (map octet) (take_all i xs c.loop-place-test.false ∙ c.as_slice-characters.ensures.value) in
-    record {
-      cases = (good, row);
-      back = ap (map character) row ∙ coded-octets cs (all_right cs (record-nine c.args.self.now) good);
-    }
+pub returns-in-None-clause-cases : goal.returns-in-None-clause-cases
+returns-in-None-clause-cases c = (good c, made c)
+
+right : (c : goal.After-map) → AllByRecursion Char c.args.self.now
+right c = all_right c.args.self.now (recursion_from_All (λ c. c < 512) c.args.self.now c.as_slice-characters.ensures.nine) (good c)
+
+pub returns-in-None-clause-back : goal.returns-in-None-clause-back
+returns-in-None-clause-back c = ap (map character) (made c) ∙ coded-octets c.args.self.now (right c)
+
+pub returns-in-None-clause-right : goal.returns-in-None-clause-right
+returns-in-None-clause-right c = All-from_recursion Char c.args.self.now (right c)

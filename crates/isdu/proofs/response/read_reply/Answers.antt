@@ -1,9 +1,15 @@
 -- The verdict is right.
-use Rattle.std.proofs.Common.{arith}
-use Rattle.isdu.proofs.Verdicts.{just-as, verdict-value}
+use Rattle.std.proofs.Common.{arith, subst, sym}
+use Rattle.isdu.specs.Response.{Just, verdict_of}
+use Rattle.isdu.proofs.Verdicts.{just}
 use Rattle.isdu.proofs.response.read_reply.Goals as goal
 
 pub returns : goal.returns
+unfolding verdict_of
 returns c =
-    let e = verdict-value c.args.service c.args.octets.now _ c.verdict_on.ensures in
-    record { value = e; just = just-as c.args.octets.now c.args.service _ (λ i. omega (arith, c.type_inv.octets i)) e }
+    record {
+      value = c.verdict_on.ensures;
+      just =
+          subst (Just c.args.octets.now c.args.service) (sym c.verdict_on.ensures)
+          (just c.args.octets.now c.args.service (λ i. omega (arith, c.type_inv.octets i)));
+    }

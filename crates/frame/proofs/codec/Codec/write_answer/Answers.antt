@@ -1,11 +1,11 @@
 -- The sealed row is the answer, which reads back.
-use Rattle.std.proofs.Common.{◌≡◌, ℕ, List, ap, ◌∙◌, ap₂}
-use Rattle.characters.specs.Characters.{characters}
-use Rattle.frame.specs.Message.{answer_message, sealed}
+use Rattle.std.proofs.Common.{◌≡◌, ℕ, ◌<◌, List, subst, ap, ◌∙◌, ap₂}
+use Rattle.std.specs.List.{AllByRecursion}
+use Rattle.frame.specs.Message.{answer_message, answer_octets, sealed}
 use Rattle.frame.specs.View.{answer_view, answered_by, taken_by}
 use Rattle.frame.specs.declared.codec.Codec.{Codec}
 use Rattle.frame.specs.declared.message.Answer.{Answer}
-use Rattle.octets.proofs.Below.{row-octets}
+use Rattle.std.proofs.lemmas.List.Elements.{recursion_from_All}
 use Rattle.frame.proofs.AnswerBack.{answer_back, answer-clear}
 use Rattle.frame.proofs.codec.Codec.write_answer.Goals as goal
 
@@ -16,11 +16,15 @@ sealed_characters-requires c =
     record { within = w.0; clear = w.1 }
 
 written : (c : goal.After-sealed_characters)
-    → characters c.sealed_characters.result ≡ answered_by c.args.self.now c.args.access (answer_view c.args.answer.now)
+    → c.sealed_characters.result ≡ answered_by c.args.self.now c.args.access (answer_view c.args.answer.now)
 unfolding answer_message
 written c =
-    c.sealed_characters.ensures
+    c.sealed_characters.ensures.value
     ∙ ap₂ (λ (k : ℕ) (os : List ℕ). sealed k os) c.status_place.ensures.value c.answer_row.ensures
+
+octets : (c : goal.After-sealed_characters)
+    → AllByRecursion (λ o. o < 256) (answer_octets c.args.self.now.lengths.od c.args.self.now.lengths.pd_in c.args.access (answer_view c.args.answer.now))
+octets c = subst (AllByRecursion (λ o. o < 256)) c.answer_row.ensures (recursion_from_All (λ o. o < 256) c.answer_row.result c.sealed_characters.ensures.octets)
 
 pub returns : goal.returns
 returns c =
@@ -29,5 +33,5 @@ returns c =
     record {
       value = written c;
       back = ap (taken_by d c.args.access) (written c)
-          ∙ answer_back d.lengths.od d.lengths.pd_in c.args.access (answer_view r) (record { on_request = row-octets r.on_request; inputs = row-octets r.inputs });
+          ∙ answer_back d.lengths.od d.lengths.pd_in c.args.access (answer_view r) (octets c);
     }

@@ -1,7 +1,0 @@
--- Slices are the same where their bytes are.
-use Rattle.std.proofs.lemmas.Slice.Eq.{slice_eq-Decides}
-use Rattle.script.proofs.word.is_word.Goals as goal
-use Rattle.std.proofs.lemmas.Bool.Decides.{Decides-eqb}
-
-pub returns : goal.returns
-returns c = slice_eq-Decides Decides-eqb _ _ _ c.eq.ensures
