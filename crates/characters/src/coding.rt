@@ -1,4 +1,4 @@
-ghost use Rattle.std.specs.Prelude.{◌≡◌, ◌<◌, [], ◌∷◌, map, All, IfOk, OnOk, Some, None, MatchResult};
+ghost use Rattle.std.specs.Prelude.{◌≡◌, [], ◌∷◌, map, All, IfOk, OnOk, Some, None, MatchResult};
 ghost use Rattle.characters.specs.Character.{Char, character, octet, odd_from};
 ghost use Rattle.characters.specs.Characters.{Codes};
 ghost use Rattle.characters.specs.Fault.{first_of, odd, silent};
@@ -45,6 +45,7 @@ impl From<&Octets<MOST>> for Characters {
 }
 
 impl Characters {
+    // A method: `Octets::<MOST>::try_from(&record)` would say less, with the count written out.
     /// The octets of the characters, if there are any and the count of ones in each is even.
     pub fn octets(&self) -> Result<Octets<MOST>, Fault>
         ensures cases { MatchResult result (λ os. (first_of (silent self.now ∷ odd self.now ∷ []) ≡ None) × (os ≡ map octet self.now)) (λ f. first_of (silent self.now ∷ odd self.now ∷ []) ≡ Some f) }

@@ -2,6 +2,9 @@
 ghost use Rattle.std.specs.Prelude.{◌≡◌};
 ghost use Rattle.characters.specs.Numbers.{fault_layer, fault_number};
 
+use std::error::Error;
+use std::fmt;
+
 /// Where a fault is found: in a single character, or in the message as a whole.
 #[derive(Clone, Copy, PartialEq, Eq, Debug)]
 pub enum Layer {
@@ -33,7 +36,8 @@ impl Fault {
         }
     }
 
-    /// The place of the first wrong character, the count found, or 0.
+    /// The place of the first wrong character, the count found, or 0: the rules give every fault
+    /// a number.
     pub fn number(self) -> usize
         ensures { result ≡ fault_number self }
     {
@@ -44,3 +48,30 @@ impl Fault {
         }
     }
 }
+
+impl fmt::Display for Layer {
+    fn fmt<W: fmt::Write>(&self, f: &mut fmt::Formatter<W>) -> fmt::Result {
+        f.write_str(match self {
+            Layer::Character => "character",
+            Layer::Message => "message",
+        })
+    }
+}
+
+// By hand, since it is made of layer, cause and number.
+impl fmt::Display for Fault {
+    fn fmt<W: fmt::Write>(&self, f: &mut fmt::Formatter<W>) -> fmt::Result {
+        let layer = self.layer();
+        let cause = match self {
+            Fault::Silence => "silence",
+            Fault::Parity(_) => "parity",
+            Fault::Length(_) => "length",
+            Fault::WrongType => "type",
+            Fault::Check => "check",
+        };
+        let number = self.number();
+        write!(f, "{layer} {cause} {number}")
+    }
+}
+
+impl Error for Fault {}

@@ -8,9 +8,6 @@ use Rattle.control.specs.declared.channel.Channel.{Channel}
 pub control-back : (o : ℕ) → o < 256 → control_octet (access_of o) (channel_of o) ≡ o
 control-back o h = grind (arith, nat_tests)
 
-pub control-below : (a : Access) (ch : Channel) → is_channel ch ≡ true → control_octet a ch < 256
-control-below a ch h = grind (arith, nat_tests)
-
 pub control-access : (a : Access) (ch : Channel) → is_channel ch ≡ true → access_of (control_octet a ch) ≡ a
 control-access a ch h = grind (arith, nat_tests)
 

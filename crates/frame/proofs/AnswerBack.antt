@@ -2,6 +2,7 @@
 use Rattle.std.proofs.Common.{◌≡◌, ℕ, suc, ◌+◌, ◌*◌, ◌/◌, ◌%◌, ◌<◌, ◌≤◌, Bool, true, false, List, [], ◌∷◌, ◌++◌, map, length, get_or, take, drop, set, None, Ok, sym, refl, ap, ◌∙◌, subst, arith, length-append, length-drop, length-take, take-add}
 use lib.ListN.{length-map}
 use Rattle.std.specs.List.{AllByRecursion}
+use Rattle.std.proofs.lemmas.List.Elements.{recursion_from_All}
 use Rattle.std.proofs.ByRecursion.{All-get_or, All-take}
 use Rattle.std.proofs.lemmas.List.{append_assoc, drop_all, drop_at, get_or_at, set_at, set_split, take_at}
 use Rattle.std.proofs.lemmas.Bool.Decides.{nat_tests}
@@ -139,7 +140,7 @@ answer-sturdy n p a cs nine h =
     let g = answer-good n p a cs nine h in
     record {
       good = h;
-      bits = λ ms l small low high h'. apart (answered_od a n + p) cs ms g (answer-good n p a (turned cs ms) (turned-nine cs ms nine small) h') l low high;
+      bits = λ ms l small low high h'. apart (answered_od a n + p) cs ms g (answer-good n p a (turned cs ms) (turned-nine cs ms nine (recursion_from_All (λ m. m < 512) ms small)) h') l low high;
       cut = λ k less h'.
           omega (
             arith,

@@ -2,6 +2,7 @@
 use Rattle.std.proofs.Common.{◌≡◌, ℕ, zero, suc, ◌+◌, ◌*◌, ◌/◌, ◌<◌, true, List, [], ◌∷◌, ◌++◌, map, length, get_or, take, drop, None, Ok, sym, refl, ap, ◌∙◌, subst, arith, length-append, length-drop, take-append-drop, length-take}
 use lib.ListN.{length-map}
 use Rattle.std.specs.List.{AllByRecursion}
+use Rattle.std.proofs.lemmas.List.Elements.{recursion_from_All}
 use Rattle.std.proofs.ByRecursion.{All-take}
 use Rattle.std.proofs.lemmas.List.{take_at, drop_at}
 use Rattle.characters.specs.Character.{octet}
@@ -107,6 +108,6 @@ pub master-sturdy : (kind n q : ℕ) (cs : List ℕ) → AllByRecursion (λ c. c
 master-sturdy kind n q cs nine h =
     record {
       good = h;
-      bits = λ ms l small low high h'. apart 1 cs ms (master-good kind n q cs nine h).0 (master-good kind n q (turned cs ms) (turned-nine cs ms nine small) h').0 l low high;
+      bits = λ ms l small low high h'. apart 1 cs ms (master-good kind n q cs nine h).0 (master-good kind n q (turned cs ms) (turned-nine cs ms nine (recursion_from_All (λ m. m < 512) ms small)) h').0 l low high;
       cut = λ k less h'. master-cut kind n q cs k nine h less h';
     }

@@ -15,17 +15,24 @@ kind_bits Type0 = 0
 kind_bits Type1 = 1
 kind_bits Type2 = 2
 
-abbrev pub master_view : MasterMessage → MasterParts
-master_view m =
+-- By what the octets stand for.
+abbrev pub master_with : {D : Type 0} → (D → List ℕ) → MasterMessage D → MasterParts
+master_with f m =
     record {
       access = m.control.access;
       channel = m.control.channel;
-      outputs = m.outputs;
-      on_request = m.on_request;
+      outputs = f m.outputs;
+      on_request = f m.on_request;
     }
 
-abbrev pub answer_view : Answer → AnswerParts
-answer_view r = record { on_request = r.on_request; inputs = r.inputs; event = r.event; invalid = r.invalid }
+abbrev pub answer_with : {D : Type 0} → (D → List ℕ) → Answer D → AnswerParts
+answer_with f r = record { on_request = f r.on_request; inputs = f r.inputs; event = r.event; invalid = r.invalid }
+
+abbrev pub master_view : MasterMessage (List ℕ) → MasterParts
+master_view = master_with (λ os. os)
+
+abbrev pub answer_view : Answer (List ℕ) → AnswerParts
+answer_view = answer_with (λ os. os)
 
 abbrev pub heard : {A B : Type 0} → (A → B) → Result A Fault → Result B Fault
 heard view (Ok m) = Ok (view m)

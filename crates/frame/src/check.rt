@@ -2,7 +2,7 @@
 ghost use Rattle.std.specs.Prelude.{◌≡◌, ◌<◌, bit_and};
 ghost use Rattle.frame.specs.Check.{check_at, check_bit, fold_at, six_bits};
 
-// The masks by the number of the check's bit.
+// The masks, indexed by the number of the check's bit: a form of the project's.
 const MASKS: [u8; 6] = [0x03, 0x0C, 0x30, 0xC0, 0x55, 0xAA];
 
 const SEED: u8 = 0x52;
@@ -19,6 +19,7 @@ pub fn checksum(octets: &[u8], place: usize) -> u8
 fn fold(octets: &[u8], place: usize) -> u8
     ensures { result ≡ fold_at place octets.now }
 {
+    // `place` picks one octet by its index, so that a chain would read no plainer.
     let mut fold = SEED;
     for (i, octet) in octets.iter().enumerate() {
         let entering = if i == place {

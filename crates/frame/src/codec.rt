@@ -4,6 +4,8 @@ ghost use Rattle.std.specs.Prelude.{◌≡◌};
 use crate::lengths::Lengths;
 use crate::message::SequenceType;
 
+// No twins: a message says its access, an answer is read by that of its message, and their parts,
+// tests and places differ.
 mod answer;
 mod master;
 mod seal;

@@ -26,6 +26,9 @@ impl Lengths {
         Ok(Lengths { od, pd_in, pd_out })
     }
 
+    // Each bound follows from `fit`, here and in `sent` and `answered` of the codec. Without the clause
+    // each caller's proof would repeat it, which reads no plainer.
+
     /// On-request octets of a message that carries any.
     pub fn od(&self) -> usize
         ensures value { result ≡ self.now.od }

@@ -8,22 +8,18 @@ use control::channel::Access;
 use frame::check::checksum;
 use frame::codec::Codec;
 
-#[derive(Clone, Copy)]
+#[derive(Clone, Copy, PartialEq, Eq, Debug)]
 pub struct Diagnosis {
     pub fault: Fault,
-    pub detail: Detail,
+    /// How many characters were demanded.
+    pub demanded: usize,
+    /// The octet that carries the check, beside a message's type; 0 where there is none.
+    pub carrier: u8,
+    /// The check of the octets; 0 where there are none.
+    pub check: u8,
 }
 
-#[derive(Clone, Copy)]
-pub enum Detail {
-    Silence,
-    /// The place of the character, from 0.
-    Parity(usize),
-    Length { found: usize, demanded: usize },
-    Type { found: u8 },
-    Check { found: u8, expected: u8 },
-}
-
+// The fault is all that each promises, and a name for that would read no plainer.
 impl Diagnosis {
     /// What is wrong with the characters of a Master message.
     pub fn of_message(line: &Codec, record: &Characters, fault: Fault) -> Diagnosis
@@ -31,10 +27,7 @@ impl Diagnosis {
     {
         let control = Control::from(octet_at(record, 0));
         let demanded = 2 + line.lengths().pd_out() + line.sent(control.access());
-        Diagnosis {
-            fault,
-            detail: explained(record, fault, demanded, 1),
-        }
+        Diagnosis::of(record, fault, demanded, 1)
     }
 
     /// What is wrong with the characters of an answer.
@@ -42,40 +35,28 @@ impl Diagnosis {
         ensures { result.fault ≡ fault }
     {
         let place = line.answered(access) + line.lengths().pd_in();
+        Diagnosis::of(record, fault, place + 1, place)
+    }
+
+    // Of characters that should be `demanded`, with the check at `place`.
+    fn of(record: &Characters, fault: Fault, demanded: usize, place: usize) -> Diagnosis
+        ensures { result.fault ≡ fault }
+    {
         Diagnosis {
             fault,
-            detail: explained(record, fault, place + 1, place),
+            demanded,
+            carrier: octet_at(record, place),
+            check: record
+                .octets()
+                .map_or(0, |row| checksum(row.as_slice(), place)),
         }
-    }
-}
-
-// The detail of a fault of characters that should be `demanded`, with the check at `place`.
-fn explained(record: &Characters, fault: Fault, demanded: usize, place: usize) -> Detail {
-    match fault {
-        Fault::Silence => Detail::Silence,
-        Fault::Parity(place) => Detail::Parity(place),
-        Fault::Length(found) => Detail::Length { found, demanded },
-        Fault::WrongType => Detail::Type {
-            found: octet_at(record, place) / 64,
-        },
-        Fault::Check => Detail::Check {
-            found: octet_at(record, place) % 64,
-            expected: expected_check(record, place),
-        },
     }
 }
 
 // The octet of the character at a place, or 0 where there is none.
 fn octet_at(record: &Characters, place: usize) -> u8 {
-    match record.as_slice().get(place) {
-        Some(character) => (*character % 256) as u8,
-        None => 0,
-    }
-}
-
-fn expected_check(record: &Characters, place: usize) -> u8 {
-    match record.octets() {
-        Ok(row) => checksum(row.as_slice(), place),
-        Err(_) => 0,
-    }
+    record
+        .as_slice()
+        .get(place)
+        .map_or(0, |character| (*character % 256) as u8)
 }

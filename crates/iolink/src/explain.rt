@@ -1,9 +1,9 @@
 //! What comes of a command, in words.
-use crate::diagnosis::Detail;
+use crate::diagnosis::Diagnosis;
 use crate::orders::{explain_order, explain_reply};
 use crate::outcome::Outcome;
 use characters::Characters;
-use characters::refusal::Refusal;
+use characters::fault::Fault;
 use control::Control;
 use control::channel::{Access, Channel, FlowCtrl};
 use frame::lengths::Lengths;
@@ -11,21 +11,22 @@ use frame::message::{Answer, MasterMessage};
 use isdu::opened::NoIsdu;
 use isdu::reply::NoReply;
 use isdu::request::read_request;
+use octets::Octets;
 use std::fmt;
 use text::hex::Hex;
 
 /// An outcome that is shown as indented lines of text.
-#[derive(Clone, Copy)]
+#[derive(Clone, Copy, PartialEq, Eq, Debug)]
 pub struct Explained<'a>(pub &'a Outcome);
 
 impl fmt::Display for Explained<'_> {
     fn fmt<W: fmt::Write>(&self, f: &mut fmt::Formatter<W>) -> fmt::Result {
         match self.0 {
             Outcome::Opened(lengths) => explain_lengths(f, lengths),
-            Outcome::Refused(refusal) => explain_refusal(f, *refusal),
+            Outcome::Refused(refusal) => writeln!(f, "    {refusal}"),
             Outcome::Message(message) => explain_message(f, message),
             Outcome::Answer(answer) => explain_answer(f, answer),
-            Outcome::Faulty(diagnosis) => explain_fault(f, diagnosis.detail),
+            Outcome::Faulty(diagnosis) => explain_fault(f, diagnosis),
             Outcome::Written(record) => explain_record(f, record),
             Outcome::Request(Ok(order)) => explain_order(f, "asks", &order.as_order()),
             Outcome::Request(Err(why)) => explain_no_order(f, *why),
@@ -36,6 +37,8 @@ impl fmt::Display for Explained<'_> {
     }
 }
 
+// Functions: the types belong to crates that know nothing of this view, nor of HEX, and a type of
+// our own around each would read no plainer.
 fn explain_lengths<W: fmt::Write>(f: &mut fmt::Formatter<W>, lengths: &Lengths) -> fmt::Result {
     let od = lengths.od();
     let pd_in = lengths.pd_in();
@@ -46,19 +49,9 @@ fn explain_lengths<W: fmt::Write>(f: &mut fmt::Formatter<W>, lengths: &Lengths) 
     )
 }
 
-fn explain_refusal<W: fmt::Write>(f: &mut fmt::Formatter<W>, refusal: Refusal) -> fmt::Result {
-    let why = match refusal {
-        Refusal::TooManyCharacters => "more characters than a message has at most, 66",
-        Refusal::NoCharacter => "a number above 1FF is no character",
-        Refusal::WrongLengths => "no line has these lengths",
-        Refusal::WrongDataCount => "a write has 1 to 232 octets",
-    };
-    writeln!(f, "    {why}")
-}
-
 fn explain_message<W: fmt::Write>(
     f: &mut fmt::Formatter<W>,
-    message: &MasterMessage,
+    message: &MasterMessage<Octets<32>>,
 ) -> fmt::Result {
     explain_control(f, &message.control)?;
     explain_octets(f, "outputs", message.outputs.as_slice())?;
@@ -89,7 +82,10 @@ fn explain_flow<W: fmt::Write>(f: &mut fmt::Formatter<W>, flow: FlowCtrl) -> fmt
     }
 }
 
-fn explain_answer<W: fmt::Write>(f: &mut fmt::Formatter<W>, answer: &Answer) -> fmt::Result {
+fn explain_answer<W: fmt::Write>(
+    f: &mut fmt::Formatter<W>,
+    answer: &Answer<Octets<32>>,
+) -> fmt::Result {
     explain_octets(f, "on-request", answer.on_request.as_slice())?;
     explain_octets(f, "inputs", answer.inputs.as_slice())?;
     let valid = if answer.invalid { "not valid" } else { "valid" };
@@ -107,32 +103,32 @@ fn explain_octets<W: fmt::Write>(
     label: &str,
     octets: &[u8],
 ) -> fmt::Result {
-    if octets.len() == 0 {
+    if octets.is_empty() {
         return writeln!(f, "    {label:<12}none");
     }
     writeln!(f, "    {label:<12}{}", Hex(octets))
 }
 
-fn explain_fault<W: fmt::Write>(f: &mut fmt::Formatter<W>, detail: Detail) -> fmt::Result {
-    match detail {
-        Detail::Silence => writeln!(f, "    nothing was heard"),
-        Detail::Parity(place) => writeln!(
+// No `Display`, which would be the transcript's.
+fn explain_fault<W: fmt::Write>(f: &mut fmt::Formatter<W>, diagnosis: &Diagnosis) -> fmt::Result {
+    let demanded = diagnosis.demanded;
+    match diagnosis.fault {
+        Fault::Silence => writeln!(f, "    nothing was heard"),
+        Fault::Parity(place) => writeln!(
             f,
             "    character {place}, counted from 0, has an odd count of ones (parity)"
         ),
-        Detail::Length { found: 1, demanded } => writeln!(
-            f,
-            "    1 character found, {demanded} demanded"
-        ),
-        Detail::Length { found, demanded } => writeln!(
-            f,
-            "    {found} characters found, {demanded} demanded"
-        ),
-        Detail::Type { found } => writeln!(f, "    M-sequence type {found} in place of 2"),
-        Detail::Check { found, expected } => writeln!(
-            f,
-            "    check {found:02X} found, {expected:02X} expected"
-        ),
+        Fault::Length(1) => writeln!(f, "    1 character found, {demanded} demanded"),
+        Fault::Length(found) => writeln!(f, "    {found} characters found, {demanded} demanded"),
+        Fault::WrongType => {
+            let found = diagnosis.carrier / 64;
+            writeln!(f, "    M-sequence type {found} in place of 2")
+        }
+        Fault::Check => {
+            let found = diagnosis.carrier % 64;
+            let expected = diagnosis.check;
+            writeln!(f, "    check {found:02X} found, {expected:02X} expected")
+        }
     }
 }
 
@@ -144,20 +140,20 @@ fn explain_record<W: fmt::Write>(f: &mut fmt::Formatter<W>, record: &Characters)
 }
 
 fn explain_no_order<W: fmt::Write>(f: &mut fmt::Formatter<W>, why: NoIsdu) -> fmt::Result {
-    let why = match why {
+    let words = match why {
         NoIsdu::Incomplete => "octets are still to come",
         NoIsdu::BadTotal => "the first octets say a total that no ISDU has",
         NoIsdu::NotWellFormed => "the octets are all there, and are no request",
     };
-    writeln!(f, "    {why}")
+    writeln!(f, "    {words}")
 }
 
 fn explain_no_reply<W: fmt::Write>(f: &mut fmt::Formatter<W>, why: NoReply) -> fmt::Result {
-    let why = match why {
+    let words = match why {
         NoReply::Incomplete => "octets are still to come",
         NoReply::Broken => "no reply of this kind can come of these octets",
     };
-    writeln!(f, "    {why}")
+    writeln!(f, "    {words}")
 }
 
 fn explain_encoded<W: fmt::Write>(f: &mut fmt::Formatter<W>, octets: &[u8]) -> fmt::Result {

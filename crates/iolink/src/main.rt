@@ -57,8 +57,9 @@ fn read_script(rt: &HostRuntime, options: &Options) -> anyhow::Result<Vec<u8>> {
 // Runs each line of a script and prints what comes of it.
 fn play(rt: &HostRuntime, script: &[u8], explain: bool) -> anyhow::Result<()> {
     let mut session = Session::new();
-    for (number, line) in (1..usize::MAX).zip(script.split_inclusive(|b| *b == b'\n')) {
+    for (before, line) in script.split_inclusive(|b| *b == b'\n').enumerate() {
         let line = without_end(line);
+        let number = before.saturating_add(1);
         match session.run_line(rt.alloc(), line) {
             Ok(Some(outcome)) => show(rt, &outcome, explain)?,
             // A script's comments head what they speak of.

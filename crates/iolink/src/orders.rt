@@ -1,4 +1,4 @@
-//! Orders and replies, in words.
+//! Orders and replies, in words. Functions, as in `explain`.
 use isdu::order::Order;
 use isdu::reply::Reply;
 use std::fmt;

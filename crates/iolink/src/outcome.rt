@@ -1,7 +1,6 @@
 //! What comes of a command, as the transcript prints it.
 use crate::diagnosis::Diagnosis;
 use characters::Characters;
-use characters::fault::{Fault, Layer};
 use characters::refusal::Refusal;
 use frame::lengths::Lengths;
 use frame::message::{Answer, MasterMessage};
@@ -14,14 +13,15 @@ use script::mistake::{Mistake, Part};
 use std::fmt;
 use text::chars::Chars;
 use text::hex::Hex;
+use thiserror::Error;
 
 /// What a command of right form gives.
-#[derive(Clone, Copy)]
+#[derive(Clone, Copy, PartialEq, Eq, Debug)]
 pub enum Outcome {
     Opened(Lengths),
     Refused(Refusal),
-    Message(MasterMessage),
-    Answer(Answer),
+    Message(MasterMessage<Octets<32>>),
+    Answer(Answer<Octets<32>>),
     Faulty(Diagnosis),
     Written(Characters),
     Request(Result<Order<Octets<MOST_DATA>>, NoIsdu>),
@@ -30,11 +30,14 @@ pub enum Outcome {
 }
 
 /// Why a line is no command that can be run.
-#[derive(Drop)]
+#[derive(PartialEq, Eq, Debug, Drop, Error)]
 pub enum Problem {
+    #[error("{0}")]
     Mistake(Mistake),
+    #[error("no line is open")]
     NoLine,
     /// Another count of octets than the open line carries.
+    #[error("{part}: {expected} expected, {found} found")]
     WrongCount {
         part: Part,
         expected: usize,
@@ -58,10 +61,10 @@ impl fmt::Display for Outcome {
             }
             Outcome::Message(message) => write_message(f, message),
             Outcome::Answer(answer) => write_answer(f, answer),
-            Outcome::Faulty(diagnosis) => write_fault(f, diagnosis.fault),
+            Outcome::Faulty(diagnosis) => write!(f, "fault {}", diagnosis.fault),
             Outcome::Written(record) => write!(f, "{}", Chars(record.as_slice())),
             Outcome::Request(Ok(order)) => write_order(f, &order.as_order()),
-            Outcome::Request(Err(why)) => write_no_order(f, *why),
+            Outcome::Request(Err(why)) => write!(f, "{why}"),
             Outcome::Response(Ok(reply)) => write_report(f, &reply.as_reply()),
             Outcome::Response(Err(why)) => write_no_reply(f, *why),
             Outcome::Encoded(octets) => write!(f, "{}", Hex(octets.as_slice())),
@@ -69,35 +72,27 @@ impl fmt::Display for Outcome {
     }
 }
 
-fn write_message<W: fmt::Write>(f: &mut fmt::Formatter<W>, message: &MasterMessage) -> fmt::Result {
+// Functions: the types belong to crates that know nothing of the transcript, nor of HEX, and a type
+// of our own around each would read no plainer.
+fn write_message<W: fmt::Write>(
+    f: &mut fmt::Formatter<W>,
+    message: &MasterMessage<Octets<32>>,
+) -> fmt::Result {
     let control = [u8::from(message.control)];
     let outputs = Hex(message.outputs.as_slice());
     let on_request = Hex(message.on_request.as_slice());
     write!(f, "good {} {outputs} {on_request}", Hex(&control))
 }
 
-fn write_answer<W: fmt::Write>(f: &mut fmt::Formatter<W>, answer: &Answer) -> fmt::Result {
+fn write_answer<W: fmt::Write>(
+    f: &mut fmt::Formatter<W>,
+    answer: &Answer<Octets<32>>,
+) -> fmt::Result {
     let on_request = Hex(answer.on_request.as_slice());
     let inputs = Hex(answer.inputs.as_slice());
     let event = u8::from(answer.event);
     let invalid = u8::from(answer.invalid);
     write!(f, "good {on_request} {inputs} {event} {invalid}")
-}
-
-fn write_fault<W: fmt::Write>(f: &mut fmt::Formatter<W>, fault: Fault) -> fmt::Result {
-    let layer = match fault.layer() {
-        Layer::Character => "character",
-        Layer::Message => "message",
-    };
-    let cause = match fault {
-        Fault::Silence => "silence",
-        Fault::Parity(_) => "parity",
-        Fault::Length(_) => "length",
-        Fault::WrongType => "type",
-        Fault::Check => "check",
-    };
-    let number = fault.number();
-    write!(f, "fault {layer} {cause} {number}")
 }
 
 fn write_order<W: fmt::Write>(f: &mut fmt::Formatter<W>, order: &Order<&[u8]>) -> fmt::Result {
@@ -110,14 +105,6 @@ fn write_order<W: fmt::Write>(f: &mut fmt::Formatter<W>, order: &Order<&[u8]>) -
             data,
         } => write!(f, "write {index} {subindex} {}", Hex(data)),
     }
-}
-
-fn write_no_order<W: fmt::Write>(f: &mut fmt::Formatter<W>, why: NoIsdu) -> fmt::Result {
-    f.write_str(match why {
-        NoIsdu::Incomplete => "incomplete",
-        NoIsdu::BadTotal => "bad total",
-        NoIsdu::NotWellFormed => "not well formed",
-    })
 }
 
 fn write_no_reply<W: fmt::Write>(f: &mut fmt::Formatter<W>, why: NoReply) -> fmt::Result {
@@ -134,19 +121,5 @@ fn write_report<W: fmt::Write>(f: &mut fmt::Formatter<W>, reply: &Reply<&[u8]>) 
         }
         Reply::WriteDone => f.write_str("report written"),
         Reply::ReadDone(data) => write!(f, "report read {}", Hex(data)),
-    }
-}
-
-impl fmt::Display for Problem {
-    fn fmt<W: fmt::Write>(&self, f: &mut fmt::Formatter<W>) -> fmt::Result {
-        match self {
-            Problem::Mistake(mistake) => write!(f, "{mistake}"),
-            Problem::NoLine => f.write_str("no line is open"),
-            Problem::WrongCount {
-                part,
-                expected,
-                found,
-            } => write!(f, "{part}: {expected} expected, {found} found"),
-        }
     }
 }

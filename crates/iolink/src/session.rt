@@ -1,13 +1,12 @@
 //! What is open while a script runs, and what its commands do there.
-ghost use Rattle.std.specs.Prelude.{◌≡◌, ◌≤◌, length, IfOk, Some, None, MatchResult, OnErr, ◌≢◌};
-ghost use Rattle.iolink.specs.Commands.{Asks, Encodes, Judges, Obeys, Opens, Plays, PutCounts, Receives, ReplyCounts, Takes, Writes, answer_of, message_of};
-ghost use Rattle.frame.specs.View.{answered_by, sent_by};
+ghost use Rattle.std.specs.Prelude.{◌≡◌, ◌↔◌, IfOk, IsOk, Some, None, MatchResult, OnErr, vec_items};
+ghost use Rattle.iolink.specs.Commands.{Asks, Encodes, Judges, Obeys, Opens, Plays, PutCounts, Puts, Receives, Replies, ReplyCounts, Takes};
+ghost use Rattle.frame.specs.View.{answer_with, master_with};
 ghost use Rattle.isdu.specs.Order.{order_view};
 
 use crate::diagnosis::Diagnosis;
 use crate::outcome::{Outcome, Problem};
 use characters::Characters;
-use control::Control;
 use control::channel::Access;
 use frame::codec::Codec;
 use frame::lengths::Lengths;
@@ -16,13 +15,12 @@ use isdu::order::Order;
 use isdu::request::{read_request, write_request};
 use isdu::response::read_reply;
 use isdu::service::Service;
-use octets::Octets;
 use script::command::{Command, parse_line};
 use script::mistake::Part;
 use std::alloc::Global;
 
 /// The line that is open for single messages, if one is.
-#[derive(Clone, Copy)]
+#[derive(Clone, Copy, PartialEq, Eq, Debug)]
 pub struct Session {
     line: Option<Codec>,
 }
@@ -56,56 +54,18 @@ impl Session {
             Command::Answer { control, record } => {
                 Ok(answer(&self.line()?, control.access(), record.as_slice()))
             }
-            Command::Put {
-                control,
-                outputs,
-                on_request,
-            } => {
-                put(
-                    &self.line()?,
-                    *control,
-                    outputs.as_slice(),
-                    on_request.as_slice(),
-                )
-            }
-            Command::Reply {
-                control,
-                on_request,
-                inputs,
-                event,
-                invalid,
-            } => {
-                let line = self.line()?;
-                let access = control.access();
-                reply(
-                    &line,
-                    access,
-                    on_request.as_slice(),
-                    inputs.as_slice(),
-                    *event,
-                    *invalid,
-                )
-            }
+            Command::Put(message) => put(&self.line()?, message),
+            Command::Reply { control, answer } => reply(&self.line()?, control.access(), answer),
             Command::Request { octets } => Ok(request(octets.as_slice())),
             Command::Response { service, octets } => Ok(response(*service, octets.as_slice())),
-            Command::EncodeRead { address } => Ok(encode(&Order::Read { address: *address })),
-            Command::EncodeWrite { address, octets } => {
-                let order = Order::Write {
-                    address: *address,
-                    data: octets.as_slice(),
-                };
-                Ok(encode(&order))
-            }
+            Command::Encode(order) => Ok(encode(&order.as_order())),
         }
     }
 
     fn line(&self) -> Result<Codec, Problem>
         ensures { MatchResult result (λ d. self.now.line ≡ Some d) (λ _. self.now.line ≡ None) }
     {
-        match self.line {
-            Some(line) => Ok(line),
-            None => Err(Problem::NoLine),
-        }
+        self.line.ok_or(Problem::NoLine)
     }
 
     // Opens a line in place of what is open; where that is refused, what is open stays.
@@ -122,6 +82,8 @@ impl Session {
     }
 }
 
+// `answer`, and `reply` beside `put`, differ in more than types: an answer needs the access of the
+// message that it answers.
 fn message(line: &Codec, numbers: &[u16]) -> Outcome
     ensures { Receives line.now numbers.now result }
 {
@@ -146,43 +108,29 @@ fn answer(line: &Codec, access: Access, numbers: &[u16]) -> Outcome
     }
 }
 
-fn put(
-    line: &Codec,
-    control: Control,
-    outputs: &[u8],
-    on_request: &[u8],
-) -> Result<Outcome, Problem>
-    ensures { MatchResult result (λ o. PutCounts line.now control outputs.now on_request.now × Writes (sent_by line.now (message_of control outputs.now on_request.now)) o) (λ _. PutCounts line.now control outputs.now on_request.now → ⊥) }
+fn put(line: &Codec, message: &MasterMessage<Vec<u8>>) -> Result<Outcome, Problem>
+    ensures { MatchResult result (λ o. Puts (master_with vec_items message.now) o line.now) (λ _. ¬ (PutCounts line.now (master_with vec_items message.now))) }
 {
-    let outputs = counted(Part::Outputs, outputs, line.lengths().pd_out())?;
-    let on_request = counted(Part::OnRequest, on_request, line.sent(control.access()))?;
-    let message = MasterMessage {
-        control,
-        outputs,
-        on_request,
-    };
-    Ok(Outcome::Written(line.write_message(&message)))
+    let sent = line.sent(message.control.access());
+    counted(
+        Part::Outputs,
+        message.outputs.len(),
+        line.lengths().pd_out(),
+    )?;
+    counted(Part::OnRequest, message.on_request.len(), sent)?;
+    Ok(Outcome::Written(line.write_message(message)))
 }
 
-fn reply(
-    line: &Codec,
-    access: Access,
-    on_request: &[u8],
-    inputs: &[u8],
-    event: bool,
-    invalid: bool,
-) -> Result<Outcome, Problem>
-    ensures { MatchResult result (λ o. ReplyCounts line.now access on_request.now inputs.now × Writes (answered_by line.now access (answer_of on_request.now inputs.now event invalid)) o) (λ _. ReplyCounts line.now access on_request.now inputs.now → ⊥) }
+fn reply(line: &Codec, access: Access, answer: &Answer<Vec<u8>>) -> Result<Outcome, Problem>
+    ensures { MatchResult result (λ o. Replies access (answer_with vec_items answer.now) o line.now) (λ _. ¬ (ReplyCounts line.now access (answer_with vec_items answer.now))) }
 {
-    let on_request = counted(Part::OnRequest, on_request, line.answered(access))?;
-    let inputs = counted(Part::Inputs, inputs, line.lengths().pd_in())?;
-    let answer = Answer {
-        on_request,
-        inputs,
-        event,
-        invalid,
-    };
-    Ok(Outcome::Written(line.write_answer(access, &answer)))
+    counted(
+        Part::OnRequest,
+        answer.on_request.len(),
+        line.answered(access),
+    )?;
+    counted(Part::Inputs, answer.inputs.len(), line.lengths().pd_in())?;
+    Ok(Outcome::Written(line.write_answer(access, answer)))
 }
 
 fn request(octets: &[u8]) -> Outcome
@@ -218,18 +166,16 @@ fn encode(order: &Order<&[u8]>) -> Outcome
     }
 }
 
-// Octets of which there are as many as expected, at most 32.
-fn counted(part: Part, given: &[u8], expected: usize) -> Result<Octets<32>, Problem>
-    requires { expected ≤ 32 }
-    ensures { MatchResult result (λ row. (row ≡ given.now) × (length given.now ≡ expected)) (λ _. length given.now ≢ expected) }
+// Whether there are as many octets as expected.
+fn counted(part: Part, found: usize, expected: usize) -> Result<(), Problem>
+    ensures { IsOk result ↔ (found ≡ expected) }
 {
-    let wrong = Problem::WrongCount {
-        part,
-        expected,
-        found: given.len(),
-    };
-    if given.len() != expected {
-        return Err(wrong);
+    if found != expected {
+        return Err(Problem::WrongCount {
+            part,
+            expected,
+            found,
+        });
     }
-    Octets::try_from(given).map_err(|_| wrong)
+    Ok(())
 }

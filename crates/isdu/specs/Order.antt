@@ -1,6 +1,8 @@
 -- Orders as plain values.
 use Rattle.std.specs.Borrow.{Bor}
-use Rattle.std.specs.Prelude.{ℕ, Bool, true, ◌&&◌, List, [], length, nat_le}
+use Rattle.std.specs.Prelude.{◌≡◌, ℕ, Bool, true, false, ◌&&◌, List, [], length, MatchResult, Result, nat_le}
+use Rattle.characters.specs.Numbers.{refusal_number}
+use Rattle.characters.specs.declared.refusal.Refusal.{Refusal}
 use Rattle.isdu.specs.Service.{Address}
 use Rattle.isdu.specs.declared.service.Service.{Service}
 use Rattle.isdu.specs.declared.service.Service.TheVariants.{Read as ReadService, Write as WriteService}
@@ -42,3 +44,7 @@ is_data d = nat_le 1 (length d) && nat_le (length d) 232
 abbrev pub can_ask : Order → Bool
 can_ask (read at) = true
 can_ask (write at d) = is_data d
+
+-- What is made of an order: P of it exactly where the order can be asked, else a refusal with 9.
+abbrev pub IfCanAsk : {A : Type 0} → Result A Refusal → Order → (A → Type 0) → Type 0
+IfCanAsk r o P = MatchResult r (λ a. (can_ask o ≡ true) × P a) (λ e. (can_ask o ≡ false) × (refusal_number e ≡ 9))

@@ -1,6 +1,6 @@
 -- Replies as plain values.
 use Rattle.std.specs.Borrow.{Bor}
-use Rattle.std.specs.Prelude.{ℕ, Bool, true, List, length, Ok, Err, Result, nat_le}
+use Rattle.std.specs.Prelude.{◌≡◌, ℕ, Bool, true, false, List, length, MatchOption, Ok, Err, Option, Result, nat_le}
 use Rattle.isdu.specs.declared.reply.NoReply.{NoReply}
 use Rattle.isdu.specs.declared.reply.Reply.{Reply as Carried}
 use Rattle.isdu.specs.declared.reply.Reply.TheVariants.{WriteRefused, WriteDone, ReadRefused, ReadDone}
@@ -45,3 +45,7 @@ can_answer (read_done d) = nat_le (length d) 232
 abbrev pub verdict_view : Result (Carried (Bor (List ℕ))) NoReply → Result Reply NoReply
 verdict_view (Ok r) = Ok (reply_view r)
 verdict_view (Err e) = Err e
+
+-- What is made of a reply: P of it exactly where the reply can be given, else nothing.
+abbrev pub IfCanAnswer : {A : Type 0} → Option A → Reply → (A → Type 0) → Type 0
+IfCanAnswer o r P = MatchOption o (can_answer r ≡ false) (λ a. (can_answer r ≡ true) × P a)

@@ -5,15 +5,19 @@ ghost use Rattle.isdu.specs.Service.{length_fits};
 
 use crate::last::exclusive_or;
 use crate::total::{NoTotal, total_of};
+use thiserror::Error;
 
 /// Why octets are no ISDU that can be read.
-#[derive(Clone, Copy, PartialEq, Eq, Debug)]
+#[derive(Clone, Copy, PartialEq, Eq, Debug, Error)]
 pub enum NoIsdu {
     /// Octets are still to come.
+    #[error("incomplete")]
     Incomplete,
     /// The first octets say a total that no ISDU has.
+    #[error("bad total")]
     BadTotal,
     /// The octets are all there, and break a rule.
+    #[error("not well formed")]
     NotWellFormed,
 }
 

@@ -1,11 +1,11 @@
 //! What a request asks for.
-ghost use Rattle.std.specs.Prelude.{◌≡◌, true, false, MatchResult};
-ghost use Rattle.isdu.specs.Order.{can_ask, held_order, order_view};
-ghost use Rattle.characters.specs.Numbers.{refusal_number};
+ghost use Rattle.std.specs.Prelude.{◌≡◌};
+ghost use Rattle.isdu.specs.Order.{IfCanAsk, held_order, order_view, order_with};
 
 use crate::MOST_DATA;
 use characters::refusal::Refusal;
 use octets::Octets;
+use std::convert::AsSlice;
 
 /// An order: the octets at an address, a pair of index and subindex, are to be read or written.
 #[derive(Clone, Copy, PartialEq, Eq, Debug, Drop)]
@@ -14,10 +14,11 @@ pub enum Order<D> {
     Write { address: (u16, u8), data: D },
 }
 
+// One `match` each way: by a `map` of the octets there would be three, since one way can refuse.
 impl Order<&[u8]> {
     /// The order with octets of its own. A write of no octets, or of more than 232, is refused.
     pub fn held(&self) -> Result<Order<Octets<MOST_DATA>>, Refusal>
-        ensures { MatchResult result (λ h. (can_ask (order_view self.now) ≡ true) × (held_order h ≡ order_view self.now)) (λ e. (can_ask (order_view self.now) ≡ false) × (refusal_number e ≡ 9)) }
+        ensures { IfCanAsk result (order_view self.now) (λ h. held_order h ≡ order_view self.now) }
     {
         match self {
             Order::Read { address } => Ok(Order::Read { address: *address }),
@@ -30,9 +31,10 @@ impl Order<&[u8]> {
     }
 }
 
-impl Order<Octets<MOST_DATA>> {
+impl<D: AsSlice<u8>> Order<D> {
+    /// The order with the octets lent.
     pub fn as_order(&self) -> Order<&[u8]>
-        ensures { order_view result ≡ held_order self.now }
+        ensures { order_view result ≡ order_with D.items self.now }
     {
         match self {
             Order::Read { address } => Order::Read { address: *address },

@@ -1,11 +1,13 @@
 //! What an order is answered.
-ghost use Rattle.std.specs.Prelude.{◌≡◌, true, false, MatchOption};
-ghost use Rattle.isdu.specs.Reply.{can_answer, held_reply, reply_view};
+ghost use Rattle.std.specs.Prelude.{◌≡◌};
+ghost use Rattle.isdu.specs.Reply.{IfCanAnswer, held_reply, reply_view, reply_with};
 ghost use Rattle.isdu.specs.Response.{no_reply};
 
 use crate::MOST_DATA;
 use crate::opened::NoIsdu;
 use octets::Octets;
+use std::convert::AsSlice;
+use thiserror::Error;
 
 /// The reply to an order. An error type says why the application refused it.
 #[derive(Clone, Copy, PartialEq, Eq, Debug, Drop)]
@@ -16,10 +18,11 @@ pub enum Reply<D> {
     ReadDone(D),
 }
 
+// One `match` each way, as for an order.
 impl Reply<&[u8]> {
     /// The reply with octets of its own. Where a read has more than 232 there is none.
     pub fn held(&self) -> Option<Reply<Octets<MOST_DATA>>>
-        ensures { MatchOption result (can_answer (reply_view self.now) ≡ false) (λ h. (can_answer (reply_view self.now) ≡ true) × (held_reply h ≡ reply_view self.now)) }
+        ensures { IfCanAnswer result (reply_view self.now) (λ h. held_reply h ≡ reply_view self.now) }
     {
         match self {
             Reply::WriteRefused(error) => Some(Reply::WriteRefused(*error)),
@@ -30,9 +33,10 @@ impl Reply<&[u8]> {
     }
 }
 
-impl Reply<Octets<MOST_DATA>> {
+impl<D: AsSlice<u8>> Reply<D> {
+    /// The reply with the octets lent.
     pub fn as_reply(&self) -> Reply<&[u8]>
-        ensures { reply_view result ≡ held_reply self.now }
+        ensures { reply_view result ≡ reply_with D.items self.now }
     {
         match self {
             Reply::WriteRefused(error) => Reply::WriteRefused(*error),
@@ -44,11 +48,13 @@ impl Reply<Octets<MOST_DATA>> {
 }
 
 /// Why octets are no reply that can be read.
-#[derive(Clone, Copy, PartialEq, Eq, Debug)]
+#[derive(Clone, Copy, PartialEq, Eq, Debug, Error)]
 pub enum NoReply {
     /// Octets are still to come.
+    #[error("incomplete")]
     Incomplete,
     /// No reply of the order's kind can come of them.
+    #[error("broken")]
     Broken,
 }
 

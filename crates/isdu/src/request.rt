@@ -1,11 +1,10 @@
 //! The request of an order: written in the first form that can name its address, read in any.
-ghost use Rattle.std.specs.Prelude.{◌≡◌, ◌≤◌, true, false, ◌++◌, length, IfOk, Some, None, Ok, Err, MatchOption, MatchResult, OnErr};
+ghost use Rattle.std.specs.Prelude.{◌≡◌, ◌≤◌, true, ◌++◌, length, IfOk, Some, None, Ok, Err, MatchOption, MatchResult, OnErr};
 ghost use Rattle.isdu.specs.Isdu.{isdu};
 ghost use Rattle.isdu.specs.Opened.{opened};
-ghost use Rattle.isdu.specs.Order.{address_of, can_ask, order_view};
+ghost use Rattle.isdu.specs.Order.{IfCanAsk, address_of, order_view};
 ghost use Rattle.isdu.specs.Request.{Asked, Carries, NotAsked, addressed, order_in, ordered, request_in, request_octets, request_of};
 ghost use Rattle.isdu.specs.Service.{address_octets, asking, can_name, first_form, service_bits, service_of};
-ghost use Rattle.characters.specs.Numbers.{refusal_number};
 
 use crate::opened::{NoIsdu, Opened, open_isdu};
 use crate::order::Order;
@@ -18,15 +17,15 @@ use octets::Octets;
 /// The request of an order, in the first form that can name its address. A write of no octets,
 /// or of more than 232, has none.
 pub fn write_request(order: &Order<&[u8]>) -> Result<Octets<MOST>, Refusal>
-    ensures value { MatchResult result (λ w. (can_ask (order_view order.now) ≡ true) × (w ≡ request_octets (order_view order.now))) (λ e. (can_ask (order_view order.now) ≡ false) × (refusal_number e ≡ 9)) }
+    ensures value { IfCanAsk result (order_view order.now) (λ w. w ≡ request_octets (order_view order.now)) }
     ensures back { IfOk result (λ w. Carries w (order_view order.now)) }
 {
     request_of(order)
 }
 
-// The laws are `write_request`'s to state.
+// Apart from `write_request`: in one function its laws stayed open at two exits.
 fn request_of(order: &Order<&[u8]>) -> Result<Octets<MOST>, Refusal>
-    ensures { MatchResult result (λ w. (can_ask (order_view order.now) ≡ true) × (w ≡ request_in (first_form (address_of (order_view order.now))) (order_view order.now))) (λ e. (can_ask (order_view order.now) ≡ false) × (refusal_number e ≡ 9)) }
+    ensures { IfCanAsk result (order_view order.now) (λ w. w ≡ request_in (first_form (address_of (order_view order.now))) (order_view order.now)) }
 {
     match order {
         Order::Read { address } => Ok(request_row(Service::Read, *address, &[])),
@@ -74,14 +73,14 @@ pub fn read_request(octets: &[u8]) -> Result<Order<&[u8]>, NoIsdu>
     order_of(octets)
 }
 
-// The laws are `read_request`'s to state.
+// Apart from `read_request`: in one function its laws stayed open at two exits.
 fn order_of(octets: &[u8]) -> Result<Order<&[u8]>, NoIsdu>
     ensures { MatchResult result (λ o. ordered (opened octets.now) ≡ Ok (order_view o)) (λ e. ordered (opened octets.now) ≡ Err e) }
 {
     order_in(open_isdu(octets)?).ok_or(NoIsdu::NotWellFormed)
 }
 
-// The order of an I-Service, a Length and the contents that they announce.
+// The order that an opened ISDU is.
 fn order_in(isdu: Opened<'_>) -> Option<Order<&[u8]>>
     ensures { MatchOption result (order_in (service_of isdu.entry.first) isdu.entry.contents.now ≡ None) (λ o. order_in (service_of isdu.entry.first) isdu.entry.contents.now ≡ Some (order_view o)) }
 {

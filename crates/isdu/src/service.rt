@@ -3,6 +3,7 @@ ghost use Rattle.std.specs.Prelude.{◌≡◌, ◌+◌, ◌*◌, ◌/◌, ◌%�
 ghost use Rattle.isdu.specs.Service.{can_name, first_form, form_bits, service_bits, service_of};
 
 /// The kind of an order, and so of its reply.
+// Not `Access` of `control`: an ISDU knows nothing of the messages that carry it.
 #[derive(Clone, Copy, PartialEq, Eq, Debug)]
 pub enum Service {
     Read,

@@ -2,12 +2,16 @@
 ghost use Rattle.std.specs.Prelude.{◌≡◌};
 ghost use Rattle.isdu.specs.Total.{extended, total_of};
 
+use thiserror::Error;
+
 /// Why the first octets so far say no total.
-#[derive(Clone, Copy, PartialEq, Eq, Debug)]
+#[derive(Clone, Copy, PartialEq, Eq, Debug, Error)]
 pub enum NoTotal {
     /// The octet that says it has not come.
+    #[error("incomplete")]
     Unknown,
     /// No ISDU has what they say.
+    #[error("bad total")]
     Bad,
 }
 

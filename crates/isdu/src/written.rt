@@ -1,5 +1,5 @@
 //! An ISDU as octets, whatever it carries.
-ghost use Rattle.std.specs.Prelude.{◌≡◌, ◌+◌, ◌<◌, ◌≤◌, ◌++◌, length};
+ghost use Rattle.std.specs.Prelude.{◌≡◌, ◌+◌, ◌≤◌, ◌++◌, length};
 ghost use Rattle.isdu.specs.Isdu.{head, isdu};
 ghost use Rattle.isdu.specs.Service.{service_bits};
 

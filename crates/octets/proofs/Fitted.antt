@@ -1,7 +1,6 @@
 -- Octets of a given count.
-use Rattle.std.proofs.Common.{◌≡◌, ℕ, zero, suc, ◌+◌, ◌-◌, ◌<◌, ◌≤◌, List, [], ◌∷◌, ◌++◌, length, take, drop, replicate, refl, ap, ◌∙◌, suc-add, zero-add, arith}
+use Rattle.std.proofs.Common.{◌≡◌, ℕ, zero, suc, ◌+◌, ◌-◌, ◌≤◌, List, [], ◌∷◌, ◌++◌, length, take, drop, replicate, refl, ap, ◌∙◌, suc-add, zero-add, arith}
 use native.Mathlib.Nat.{sub-zero}
-use Rattle.std.specs.List.{AllByRecursion}
 use Rattle.octets.specs.Octets.{fitted}
 
 pub length-fitted : (n : ℕ) (os : List ℕ) → length (fitted n os) ≡ n
@@ -15,11 +14,6 @@ fitted-exact zero [] l = refl
 fitted-exact zero (o ∷ os) l = absurd (let z : ⊥ = omega arith in z)
 fitted-exact (suc n) [] l = absurd (let z : ⊥ = omega arith in z)
 fitted-exact (suc n) (o ∷ os) l = ap (λ (xs : List ℕ). o ∷ xs) (fitted-exact n os (omega arith))
-
-pub fitted-octets : (n : ℕ) (os : List ℕ) → AllByRecursion (λ o. o < 256) os → AllByRecursion (λ o. o < 256) (fitted n os)
-fitted-octets zero os h = tt
-fitted-octets (suc n) [] h = (omega arith, fitted-octets n [] tt)
-fitted-octets (suc n) (o ∷ os) h = (h.0, fitted-octets n os h.1)
 
 drop-none : (n : ℕ) → drop {A = ℕ} n [] ≡ []
 drop-none zero = refl

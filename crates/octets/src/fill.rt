@@ -1,6 +1,7 @@
 ghost use Rattle.std.specs.Prelude.{◌≡◌};
 
 /// What a row can hold: plain values, one of which fills the places that are not taken.
+// Not `Default`, whose ghost member is a predicate: the `inverse` of a model needs the value.
 pub trait Fill: Copy {
     ghost fill: { Self };
 

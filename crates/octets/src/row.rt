@@ -3,12 +3,13 @@ ghost use Rattle.std.specs.List.{AllZip};
 
 use crate::Fill;
 use std::alloc::AllocError;
-use std::error::Error;
+use std::convert::AsSlice;
 use std::marker::Model;
-use std::{fmt, mem};
+use thiserror::Error;
 
 /// At most N elements. Clauses see them as a list.
-// A vector of the kit's `arrayvec` is no `Copy`, and a message is copied like a number.
+// In its own memory: nothing here allocates, and a vector of the kit's `arrayvec` is no `Copy`, as
+// rows and the messages that hold them are.
 #[derive(Copy, PartialEq, Eq, Debug)]
 pub struct Row<T: Fill, const N: usize> {
     items: [T; N],
@@ -34,7 +35,7 @@ impl<T: Fill, const N: usize> Model for Row<T, N> {
     } };
 }
 
-// A derived `clone` is not known to copy each element.
+// Derived, `clone` leaves the invariant of its result open: it is not known to copy an element.
 impl<T: Fill, const N: usize> Clone for Row<T, N> {
     ghost is_clone = { λ row copy. copy ≡ row };
 
@@ -46,17 +47,12 @@ impl<T: Fill, const N: usize> Clone for Row<T, N> {
 }
 
 /// There is no room left in a row.
-#[derive(Clone, Copy, PartialEq, Eq, Debug)]
+#[derive(Clone, Copy, PartialEq, Eq, Debug, Error)]
+#[error("no room left in the row")]
 pub struct Full;
 
-impl fmt::Display for Full {
-    fn fmt<W: fmt::Write>(&self, f: &mut fmt::Formatter<W>) -> fmt::Result {
-        f.write_str("no room left in the row")
-    }
-}
-
-impl Error for Full {}
-
+// Each writer states its own room, and that a refusal leaves the row: one definition for them would
+// hide both and be no shorter. `len` follows from `after`; it spares callers that proof.
 impl<T: Fill, const N: usize> Row<T, N> {
     /// No elements.
     pub fn new() -> Self
@@ -84,6 +80,7 @@ impl<T: Fill, const N: usize> Row<T, N> {
     }
 
     /// The elements of a slice at the end. Where there is no room for them the row stays as it is.
+    #[tactic(auto, using(crate::proofs::Rows::extended))]
     pub fn extend_from_slice(&mut self, items: &[T]) -> Result<(), Full>
         ensures room { IsOk result ↔ (length self.old + length items.now ≤ N) }
         ensures after { OnOk result (self.new ≡ self.old ++ items.now) }
@@ -93,14 +90,16 @@ impl<T: Fill, const N: usize> Row<T, N> {
         if items.len() > N - self.len {
             return Err(Full);
         }
-        for item in items {
-            self.push(*item)?;
-        }
+        let end = self.len + items.len();
+        let all = &mut self.items[..];
+        all[self.len..end].copy_from_slice(items);
+        self.len = end;
         Ok(())
     }
 
     /// Another element at a place, for the one that was there. Where the row has no such place it
     /// stays as it is, and the answer is none.
+    #[tactic(auto, using(crate::proofs::Rows::held_set))]
     pub fn put(&mut self, place: usize, item: T) -> Option<T>
         ensures before { result ≡ slice_get self.old place }
         ensures after { self.new ≡ slice_set self.old place item }
@@ -137,6 +136,14 @@ impl<T: Fill, const N: usize> Row<T, N> {
         ensures bound { result ≤ N }
     {
         self.as_slice().len()
+    }
+}
+
+impl<T: Fill, const N: usize> AsSlice<T> for Row<T, N> {
+    ghost items = { λ row. row };
+
+    fn as_slice(&self) -> &[T] {
+        self.as_slice()
     }
 }
 

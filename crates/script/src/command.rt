@@ -7,6 +7,8 @@ use crate::mistake::{Mistake, Part};
 use crate::reader::Words;
 use crate::word::without_comment;
 use control::Control;
+use frame::message::{Answer, MasterMessage};
+use isdu::order::Order;
 use isdu::service::Service;
 use std::alloc::Global;
 
@@ -28,18 +30,11 @@ pub enum Command {
         record: Vec<u16>,
     },
     /// Writes a Master message.
-    Put {
-        control: Control,
-        outputs: Vec<u8>,
-        on_request: Vec<u8>,
-    },
-    /// Writes the answer to a message.
+    Put(MasterMessage<Vec<u8>>),
+    /// Writes the answer to a message with this control octet.
     Reply {
         control: Control,
-        on_request: Vec<u8>,
-        inputs: Vec<u8>,
-        event: bool,
-        invalid: bool,
+        answer: Answer<Vec<u8>>,
     },
     /// Reads a request.
     Request {
@@ -50,15 +45,8 @@ pub enum Command {
         service: Service,
         octets: Vec<u8>,
     },
-    /// Writes the request of a read.
-    EncodeRead {
-        address: (u16, u8),
-    },
-    /// Writes the request of a write.
-    EncodeWrite {
-        address: (u16, u8),
-        octets: Vec<u8>,
-    },
+    /// Writes the request of an order.
+    Encode(Order<Vec<u8>>),
 }
 
 /// The command of a line, if it has one.
@@ -125,11 +113,11 @@ fn answer(words: &mut Words<'_>) -> Result<Command, Mistake>
 fn put(words: &mut Words<'_>) -> Result<Command, Mistake>
     ensures { IfOk result (ReadsCommand (codes "put") words.old words.new) }
 {
-    Ok(Command::Put {
+    Ok(Command::Put(MasterMessage {
         control: words.control()?,
         outputs: words.octets(Part::Outputs)?,
         on_request: words.octets(Part::OnRequest)?,
-    })
+    }))
 }
 
 fn reply(words: &mut Words<'_>) -> Result<Command, Mistake>
@@ -137,10 +125,12 @@ fn reply(words: &mut Words<'_>) -> Result<Command, Mistake>
 {
     Ok(Command::Reply {
         control: words.control()?,
-        on_request: words.octets(Part::OnRequest)?,
-        inputs: words.octets(Part::Inputs)?,
-        event: words.flag(Part::EventFlag)?,
-        invalid: words.flag(Part::InvalidMark)?,
+        answer: Answer {
+            on_request: words.octets(Part::OnRequest)?,
+            inputs: words.octets(Part::Inputs)?,
+            event: words.flag(Part::EventFlag)?,
+            invalid: words.flag(Part::InvalidMark)?,
+        },
     })
 }
 
@@ -166,11 +156,11 @@ fn encode(words: &mut Words<'_>) -> Result<Command, Mistake>
 {
     let service = words.service()?;
     let address = words.address()?;
-    match service {
-        Service::Read => Ok(Command::EncodeRead { address }),
-        Service::Write => Ok(Command::EncodeWrite {
+    Ok(Command::Encode(match service {
+        Service::Read => Order::Read { address },
+        Service::Write => Order::Write {
             address,
-            octets: words.octets(Part::Octets)?,
-        }),
-    }
+            data: words.octets(Part::Octets)?,
+        },
+    }))
 }

@@ -3,9 +3,9 @@ ghost use Rattle.std.specs.Prelude.{◌≡◌};
 ghost use Rattle.script.specs.declared.mistake.Mistake.TheVariants.{Memory};
 
 use std::alloc::AllocError;
-use std::error::Error;
 use std::fmt;
 use text::flaw::Flaw;
+use thiserror::Error;
 
 /// A word of a command after its name.
 #[derive(Clone, Copy, PartialEq, Eq, Debug)]
@@ -50,25 +50,32 @@ impl fmt::Display for Part {
     }
 }
 
-#[derive(PartialEq, Eq, Debug, Drop)]
+#[derive(PartialEq, Eq, Debug, Drop, Error)]
 pub enum Mistake {
     /// No command has this name.
+    #[error("no command is called '{0}'")]
     NoCommand(String),
     /// Nothing of this kind can be opened.
+    #[error("'{0}' cannot be opened")]
     NoKind(String),
     /// An order is of no such kind.
+    #[error("'{0}' is neither write nor read")]
     NoService(String),
     /// The line ends before this part.
+    #[error("{0} missing")]
     Missing(Part),
     /// A word of another form than its part has.
+    #[error("{part}: '{word}' {flaw}")]
     Wrong {
         part: Part,
         word: String,
         flaw: Flaw,
     },
     /// The first word that the command does not take.
+    #[error("'{0}' is a word too many")]
     TooMany(String),
     /// No memory for what the line says.
+    #[error("no memory left")]
     Memory,
 }
 
@@ -79,19 +86,3 @@ impl From<AllocError> for Mistake {
         Mistake::Memory
     }
 }
-
-impl fmt::Display for Mistake {
-    fn fmt<W: fmt::Write>(&self, f: &mut fmt::Formatter<W>) -> fmt::Result {
-        match self {
-            Mistake::NoCommand(word) => write!(f, "no command is called '{word}'"),
-            Mistake::NoKind(word) => write!(f, "'{word}' cannot be opened"),
-            Mistake::NoService(word) => write!(f, "'{word}' is neither write nor read"),
-            Mistake::Missing(part) => write!(f, "{part} missing"),
-            Mistake::Wrong { part, word, flaw } => write!(f, "{part}: '{word}' {flaw}"),
-            Mistake::TooMany(word) => write!(f, "'{word}' is a word too many"),
-            Mistake::Memory => f.write_str("no memory left"),
-        }
-    }
-}
-
-impl Error for Mistake {}

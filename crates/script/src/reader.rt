@@ -32,6 +32,8 @@ impl<'a> Model for Words<'a> {
     ghost view = { λ words. words.rest.now };
 }
 
+// Each reading says what it leaves of the text: a name for that would read no plainer than the one
+// word it is.
 impl<'a> Words<'a> {
     pub(crate) fn new(heap: Global, text: &'a [u8]) -> Self
         ensures { result ≡ text.now }

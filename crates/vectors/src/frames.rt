@@ -1,7 +1,6 @@
 //! Messages and answers, written and read.
 use crate::trouble::Trouble;
 use characters::{Characters, MOST};
-use control::Control;
 use control::channel::Access;
 use frame::codec::Codec;
 use frame::lengths::Lengths;
@@ -14,7 +13,7 @@ use text::hex::hex_text;
 use text::number::parse_number;
 
 /// The line of a task.
-#[derive(Clone, Copy)]
+#[derive(Clone, Copy, PartialEq, Eq, Debug)]
 pub struct Line(Codec);
 
 impl Line {
@@ -44,29 +43,19 @@ impl Line {
 
     fn obeyed(&self, command: &Command, heard: &Characters) -> Result<Characters, Trouble> {
         match command {
-            Command::Put {
-                control,
-                outputs,
-                on_request,
-            } => {
-                let message = message_of(*control, outputs.as_slice(), on_request.as_slice())?;
-                self.message(heard, &message)
-            }
-            Command::Reply {
-                control,
-                on_request,
-                inputs,
-                event,
-                invalid,
-            } => {
-                let answer = answer_of(on_request.as_slice(), inputs.as_slice(), *event, *invalid)?;
-                self.answer(heard, control.access(), &answer)
+            Command::Put(message) => self.message(heard, &held_message(message)?),
+            Command::Reply { control, answer } => {
+                self.answer(heard, control.access(), &held_answer(answer)?)
             }
             _ => Err(Trouble::OtherCommand),
         }
     }
 
-    fn message(&self, heard: &Characters, message: &MasterMessage) -> Result<Characters, Trouble> {
+    fn message(
+        &self,
+        heard: &Characters,
+        message: &MasterMessage<Octets<32>>,
+    ) -> Result<Characters, Trouble> {
         if self.0.read_message(heard) == Ok(*message) {
             Ok(self.0.write_message(message))
         } else {
@@ -78,7 +67,7 @@ impl Line {
         &self,
         heard: &Characters,
         access: Access,
-        answer: &Answer,
+        answer: &Answer<Octets<32>>,
     ) -> Result<Characters, Trouble> {
         if self.0.read_answer(access, heard) == Ok(*answer) {
             Ok(self.0.write_answer(access, answer))
@@ -88,33 +77,21 @@ impl Line {
     }
 }
 
-fn message_of(
-    control: Control,
-    outputs: &[u8],
-    on_request: &[u8],
-) -> Result<MasterMessage, Trouble> {
-    let outputs = few(outputs)?;
-    let on_request = few(on_request)?;
+// A message and an answer differ in their fields, and so these two, and the two above.
+fn held_message(message: &MasterMessage<Vec<u8>>) -> Result<MasterMessage<Octets<32>>, Trouble> {
     Ok(MasterMessage {
-        control,
-        outputs,
-        on_request,
+        control: message.control,
+        outputs: few(message.outputs.as_slice())?,
+        on_request: few(message.on_request.as_slice())?,
     })
 }
 
-fn answer_of(
-    on_request: &[u8],
-    inputs: &[u8],
-    event: bool,
-    invalid: bool,
-) -> Result<Answer, Trouble> {
-    let on_request = few(on_request)?;
-    let inputs = few(inputs)?;
+fn held_answer(answer: &Answer<Vec<u8>>) -> Result<Answer<Octets<32>>, Trouble> {
     Ok(Answer {
-        on_request,
-        inputs,
-        event,
-        invalid,
+        on_request: few(answer.on_request.as_slice())?,
+        inputs: few(answer.inputs.as_slice())?,
+        event: answer.event,
+        invalid: answer.invalid,
     })
 }
 
@@ -135,6 +112,6 @@ fn few(octets: &[u8]) -> Result<Octets<32>, Trouble> {
 fn octets_text(heap: Global, record: &Characters) -> Result<String, Trouble> {
     match record.octets() {
         Ok(row) => Ok(hex_text(heap, row.as_slice())?),
-        Err(_) => Err(Trouble::NoOctets),
+        Err(_) => Err(Trouble::Faulty),
     }
 }

@@ -1,6 +1,6 @@
 //! A row of the table: a name, a task and what it should give, with `|` between them.
 
-#[derive(Clone, Copy)]
+#[derive(Clone, Copy, PartialEq, Eq, Debug)]
 pub struct Row<'a> {
     pub name: &'a str,
     pub task: &'a str,

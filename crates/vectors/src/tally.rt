@@ -1,7 +1,7 @@
 //! How many vectors there are, and how many differ.
 use std::fmt;
 
-#[derive(Clone, Copy, Default)]
+#[derive(Clone, Copy, Default, PartialEq, Eq, Debug)]
 pub struct Tally {
     vectors: u64,
     differing: u64,

@@ -1,7 +1,7 @@
 //! What comes of a row of the table.
 use std::fmt;
 
-#[derive(Clone, Copy)]
+#[derive(Clone, Copy, PartialEq, Eq, Debug)]
 pub struct Verdict<'a> {
     pub name: &'a str,
     pub expected: &'a str,
@@ -16,15 +16,12 @@ impl Verdict<'_> {
 
 impl fmt::Display for Verdict<'_> {
     fn fmt<W: fmt::Write>(&self, f: &mut fmt::Formatter<W>) -> fmt::Result {
+        let name = self.name;
         if self.same() {
-            f.write_str("same ")?;
-            return f.write_str(self.name);
+            return write!(f, "same {name}");
         }
-        f.write_str("DIFFERS ")?;
-        f.write_str(self.name)?;
-        f.write_str(" expected ")?;
-        f.write_str(self.expected)?;
-        f.write_str(" got ")?;
-        f.write_str(self.got)
+        let expected = self.expected;
+        let got = self.got;
+        write!(f, "DIFFERS {name} expected {expected} got {got}")
     }
 }

@@ -1,7 +1,7 @@
 ghost use Rattle.std.specs.Prelude.{◌≡◌, ◌+◌, ◌≤◌, IfOk, Some, None, Ok, OnOk, MatchResult};
 ghost use Rattle.frame.specs.Disturbed.{Sturdy};
 ghost use Rattle.frame.specs.Message.{answer_parts, answered_od, status_bits};
-ghost use Rattle.frame.specs.View.{answer_view, answered_by, answered_fault, answered_octets, answered_test, heard, returned_by, taken_by};
+ghost use Rattle.frame.specs.View.{answer_view, answer_with, answered_by, answered_fault, answered_octets, answered_test, heard, returned_by, taken_by};
 
 use super::Codec;
 use super::seal::sealed_characters;
@@ -11,6 +11,7 @@ use characters::fault::Fault;
 use characters::{Characters, MOST};
 use control::channel::Access;
 use octets::Octets;
+use std::convert::AsSlice;
 
 // The event flag in bit 7, the mark of invalid inputs in bit 6.
 fn status_bits(event: bool, invalid: bool) -> u8
@@ -33,9 +34,9 @@ impl Codec {
 
     /// The characters of the answer to an access. On-request octets and inputs are cut or filled
     /// up with 00 to what the line carries.
-    pub fn write_answer(&self, access: Access, answer: &Answer) -> Characters
-        ensures value { result ≡ answered_by self.now access (answer_view answer.now) }
-        ensures back { taken_by self.now access result ≡ Ok (returned_by self.now access (answer_view answer.now)) }
+    pub fn write_answer<D: AsSlice<u8>>(&self, access: Access, answer: &Answer<D>) -> Characters
+        ensures value { result ≡ answered_by self.now access (answer_with D.items answer.now) }
+        ensures back { taken_by self.now access result ≡ Ok (returned_by self.now access (answer_with D.items answer.now)) }
     {
         sealed_characters(self.answer_row(access, answer), self.status_place(access))
     }
@@ -49,8 +50,8 @@ impl Codec {
     }
 
     // The octets of an answer, the check's six bits 0.
-    fn answer_row(&self, access: Access, answer: &Answer) -> Octets<MOST>
-        ensures { result ≡ answered_octets self.now access (answer_view answer.now) }
+    fn answer_row<D: AsSlice<u8>>(&self, access: Access, answer: &Answer<D>) -> Octets<MOST>
+        ensures { result ≡ answered_octets self.now access (answer_with D.items answer.now) }
     {
         let mut row = Octets::new();
         row.append(answer.on_request.as_slice(), self.answered(access))
@@ -62,7 +63,11 @@ impl Codec {
     }
 
     /// The answer to an access, or the first fault.
-    pub fn read_answer(&self, access: Access, record: &Characters) -> Result<Answer, Fault>
+    pub fn read_answer(
+        &self,
+        access: Access,
+        record: &Characters,
+    ) -> Result<Answer<Octets<32>>, Fault>
         ensures value { heard answer_view result ≡ taken_by self.now access «record».now }
         ensures written { IfOk result (λ m. «record».now ≡ answered_by self.now access (answer_view m)) }
         ensures sturdy { OnOk result (Sturdy (answered_fault self.now access) «record».now) }
@@ -88,7 +93,7 @@ impl Codec {
     }
 
     // What octets with no fault say.
-    fn answer_parts(&self, access: Access, octets: &[u8]) -> Answer
+    fn answer_parts(&self, access: Access, octets: &[u8]) -> Answer<Octets<32>>
         requires { answered_test self.now access octets.now ≡ None }
         ensures { answer_view result ≡ answer_parts self.now.lengths.od self.now.lengths.pd_in access octets.now }
     {

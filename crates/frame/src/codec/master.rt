@@ -1,7 +1,7 @@
-ghost use Rattle.std.specs.Prelude.{◌≡◌, ◌+◌, ◌≤◌, IfOk, Some, None, Ok, OnOk, MatchResult};
+ghost use Rattle.std.specs.Prelude.{◌≡◌, ◌≤◌, IfOk, Some, None, Ok, OnOk, MatchResult};
 ghost use Rattle.frame.specs.Disturbed.{Sturdy};
 ghost use Rattle.frame.specs.Message.{master_parts, sent_od};
-ghost use Rattle.frame.specs.View.{carried_by, heard, master_view, received_by, sent_by, sent_fault, sent_octets, sent_test};
+ghost use Rattle.frame.specs.View.{carried_by, heard, master_view, master_with, received_by, sent_by, sent_fault, sent_octets, sent_test};
 
 use super::Codec;
 use super::seal::sealed_characters;
@@ -12,9 +12,11 @@ use characters::{Characters, MOST};
 use control::Control;
 use control::channel::Access;
 use octets::Octets;
+use std::convert::AsSlice;
 
 impl Codec {
     /// How many on-request octets a Master message carries.
+    // `answered` is its reverse: in one function a call would have to say which of them it means.
     pub fn sent(&self, access: Access) -> usize
         ensures value { result ≡ sent_od access self.now.lengths.od }
         ensures bound { result ≤ 32 }
@@ -27,16 +29,16 @@ impl Codec {
 
     /// The characters of a Master message. Outputs and on-request octets are cut or filled up
     /// with 00 to what the line carries.
-    pub fn write_message(&self, message: &MasterMessage) -> Characters
-        ensures value { result ≡ sent_by self.now (master_view message.now) }
-        ensures back { received_by self.now result ≡ Ok (carried_by self.now (master_view message.now)) }
+    pub fn write_message<D: AsSlice<u8>>(&self, message: &MasterMessage<D>) -> Characters
+        ensures value { result ≡ sent_by self.now (master_with D.items message.now) }
+        ensures back { received_by self.now result ≡ Ok (carried_by self.now (master_with D.items message.now)) }
     {
         sealed_characters(self.message_row(message), 1)
     }
 
     // The octets of a Master message, the check's six bits 0.
-    fn message_row(&self, message: &MasterMessage) -> Octets<MOST>
-        ensures { result ≡ sent_octets self.now (master_view message.now) }
+    fn message_row<D: AsSlice<u8>>(&self, message: &MasterMessage<D>) -> Octets<MOST>
+        ensures { result ≡ sent_octets self.now (master_with D.items message.now) }
     {
         let mut row = Octets::new();
         row.push(u8::from(message.control)).unwrap();
@@ -52,7 +54,7 @@ impl Codec {
     }
 
     /// The message of characters, or the first fault.
-    pub fn read_message(&self, record: &Characters) -> Result<MasterMessage, Fault>
+    pub fn read_message(&self, record: &Characters) -> Result<MasterMessage<Octets<32>>, Fault>
         ensures value { heard master_view result ≡ received_by self.now «record».now }
         ensures written { IfOk result (λ m. «record».now ≡ sent_by self.now (master_view m)) }
         ensures sturdy { OnOk result (Sturdy (sent_fault self.now) «record».now) }
@@ -83,7 +85,7 @@ impl Codec {
     }
 
     // What octets with no fault say.
-    fn message_parts(&self, octets: &[u8]) -> MasterMessage
+    fn message_parts(&self, octets: &[u8]) -> MasterMessage<Octets<32>>
         requires { sent_test self.now octets.now ≡ None }
         ensures { master_view result ≡ master_parts self.now.lengths.pd_out octets.now }
     {

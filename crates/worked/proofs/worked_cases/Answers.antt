@@ -4,6 +4,6 @@ use lib.Count.{ones, ones_in}
 use Rattle.frame.specs.Message.{answer_message, master_fault, master_message}
 use Rattle.worked.proofs.worked_cases.Goals as goal
 
-pub returns : goal.returns
+pub returns-clause-hold : goal.returns-clause-hold
 unfolding ones ones_in answer_message master_fault master_message
-returns c = record { count = c.case_count.ensures; hold = (refl, (refl, (refl, (refl, (refl, tt))))) }
+returns-clause-hold c = (refl, (refl, (refl, (refl, (refl, tt)))))

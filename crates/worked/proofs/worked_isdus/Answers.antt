@@ -4,10 +4,6 @@ use Rattle.isdu.specs.Request.{request_octets}
 use Rattle.isdu.specs.Response.{reply_octets}
 use Rattle.worked.proofs.worked_isdus.Goals as goal
 
-pub returns : goal.returns
+pub returns-clause-hold : goal.returns-clause-hold
 unfolding request_octets reply_octets
-returns c =
-    record {
-      count = c.isdu_count.ensures;
-      hold = (refl, (refl, (refl, (refl, (refl, ((λ d e. rw e), ((λ d e. rw e), ((λ d e. rw e), tt))))))));
-    }
+returns-clause-hold c = (refl, (refl, (refl, (refl, (refl, ((λ d e. rw e), ((λ d e. rw e), ((λ d e. rw e), tt))))))))
