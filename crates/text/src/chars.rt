@@ -7,7 +7,7 @@ ghost use Rattle.text.specs.Text.{chars_text, dotted_one, read_chars, three_digi
 ghost use Rattle.text.specs.Why.{WhyNoChars};
 ghost use Rattle.std.specs.Fmt.{WritesOnOk};
 
-use crate::digit::three_digits;
+use crate::digit::{glyph, three_digits};
 use crate::flaw::Flaw;
 use crate::hex::is_dash;
 use std::alloc::{AllocError, Global};
@@ -68,11 +68,12 @@ impl fmt::Display for Chars<'_> {
 }
 
 // Writes the last three digits of a character.
-#[tactic(auto, using(crate::proofs::Glyphs::hex_three))]
 fn write_character<W: fmt::Write>(f: &mut fmt::Formatter<W>, character: u16) -> fmt::Result
     ensures { WritesOnOk W.write_str_gives f.old result (three_digits character) f.new }
 {
-    write!(f, "{:03X}", character % 4096)
+    f.write_char(glyph((character / 256 % 16) as u8))?;
+    f.write_char(glyph((character / 16 % 16) as u8))?;
+    f.write_char(glyph((character % 16) as u8))
 }
 
 /// The CHARS of characters. Of characters below 4096 it is read as them.

@@ -1,6 +1,6 @@
 //! Digits of a word.
 ghost use Rattle.std.specs.Prelude.{◌≡◌, ◌<◌, ◌≤◌, IfSome};
-ghost use Rattle.text.specs.Digit.{digit};
+ghost use Rattle.text.specs.Digit.{digit, glyph};
 ghost use Rattle.text.specs.Number.{below};
 ghost use Rattle.text.specs.Text.{more};
 
@@ -28,4 +28,15 @@ pub(crate) fn three_digits(high: u8, middle: u8, low: u8) -> Option<u16>
 {
     let front = two_digits(high, middle)?;
     Some(16 * u16::from(front) + digit_below(16, low)? as u16)
+}
+
+/// The hexadecimal digit of a value below 16, in upper case.
+pub(crate) fn glyph(value: u8) -> char
+    requires { value < 16 }
+    ensures value { result ≡ glyph value }
+    ensures ascii { result < 128 }
+{
+    char::from_digit(u32::from(value), 16)
+        .unwrap()
+        .to_ascii_uppercase()
 }
