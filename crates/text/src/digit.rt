@@ -30,13 +30,13 @@ pub(crate) fn three_digits(high: u8, middle: u8, low: u8) -> Option<u16>
     Some(16 * u16::from(front) + digit_below(16, low)? as u16)
 }
 
+const GLYPHS: [u8; 16] = *b"0123456789ABCDEF";
+
 /// The hexadecimal digit of a value below 16, in upper case.
 pub(crate) fn glyph(value: u8) -> char
     requires { value < 16 }
     ensures value { result ≡ glyph value }
     ensures ascii { result < 128 }
 {
-    char::from_digit(u32::from(value), 16)
-        .unwrap()
-        .to_ascii_uppercase()
+    char::from(GLYPHS[usize::from(value)])
 }
