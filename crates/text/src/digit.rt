@@ -1,8 +1,10 @@
-//! Digits of a word.
+//! Digits: of the words that are read, and of what is shown.
 ghost use Rattle.std.specs.Prelude.{◌≡◌, ◌<◌, ◌≤◌, IfSome};
 ghost use Rattle.text.specs.Digit.{digit, glyph};
 ghost use Rattle.text.specs.Number.{below};
 ghost use Rattle.text.specs.Text.{more};
+
+const GLYPHS: [u8; 16] = *b"0123456789ABCDEF";
 
 /// The value of a digit of a radix, in upper or lower case.
 pub(crate) fn digit_below(radix: u32, b: u8) -> Option<u32>
@@ -29,8 +31,6 @@ pub(crate) fn three_digits(high: u8, middle: u8, low: u8) -> Option<u16>
     let front = two_digits(high, middle)?;
     Some(16 * u16::from(front) + digit_below(16, low)? as u16)
 }
-
-const GLYPHS: [u8; 16] = *b"0123456789ABCDEF";
 
 /// The hexadecimal digit of a value below 16, in upper case.
 pub(crate) fn glyph(value: u8) -> char

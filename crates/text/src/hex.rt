@@ -60,7 +60,7 @@ impl fmt::Display for Hex<'_> {
 }
 
 // Writes the two digits of an octet.
-// By `write_char`: with `{:02X}` a line that shows many octets takes a third to a half more time.
+// By `write_char`: with `{:02X}` a line that shows many octets takes 1.3 to 1.4 times as long.
 fn write_octet<W: fmt::Write>(f: &mut fmt::Formatter<W>, octet: u8) -> fmt::Result
     ensures { WritesOnOk W.write_str_gives f.old result (two_digits octet) f.new }
 {
